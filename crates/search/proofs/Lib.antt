@@ -1,0 +1,5 @@
+pub mod Tests
+pub mod Firsts
+pub mod Masks
+pub mod Bests
+pub mod Pigeons

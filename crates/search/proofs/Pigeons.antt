@@ -1,0 +1,82 @@
+-- As many places as distinct numbers below a bound, and how many pass a test. Assumes nothing.
+use Prim.Native.Nat.{ℕ, zero, suc, _+_, _<_, _≤_}
+use mathlib.Core.Path.{_≡_, refl, sym, ap, _∙_}
+use mathlib.Core.Bool.{Bool, true, false}
+use mathlib.Core.List.{List}
+use mathlib.Core.Logic.{_≢_, _⊎_, inl, inr, ⊎-elim}
+use native.Mathlib.Omega.{arith}
+use native.Mathlib.Decide.{ℕ-discrete, decLt}
+use lib.ListN.{length, getD}
+use borrow.Author.Tests.{eq-eqb, ne-eqb}
+use Rattle.search.specs.Words.{if_then_else_, _is_}
+use Rattle.search.specs.Below.{howMany}
+
+-- ---- one number in another's stead
+abbrev instead : ℕ → ℕ → ℕ → ℕ
+instead a b x = if x is a then b else x
+
+instead-is : (a b x : ℕ) → ((x ≡ a) × (instead a b x ≡ b)) ⊎ ((x ≢ a) × (instead a b x ≡ x))
+instead-is a b x = elim (ℕ-discrete x a) [ yes e ↦ inl (e, rw (eq-eqb _ _ e)) | no d ↦ inr (d, rw (ne-eqb _ _ d)) ]
+
+-- where only x may be b, it stays distinct: so m values that leave out b fit below m, b in the stead of m
+instead-apart : (a b x y : ℕ) → x ≢ b → y ≢ b → instead a b x ≡ instead a b y → x ≡ y
+instead-apart a b x y dx dy e =
+    ⊎-elim
+    (λ i. ⊎-elim (λ k. omega arith) (λ k. absurd (dy (omega arith))) (instead-is a b y))
+    (λ i. ⊎-elim (λ k. absurd (dx (omega arith))) (λ k. omega arith) (instead-is a b y)) (instead-is a b x)
+
+instead-below : (m b x : ℕ) → b < suc m → x < suc m → x ≢ b → instead m b x < m
+instead-below m b x l h d = ⊎-elim (λ i. omega arith) (λ i. omega arith) (instead-is m b x)
+
+-- ---- those below n that pass go to distinct numbers below m: there are at most m
+pub count-into : (ok : ℕ → Bool) (n m : ℕ) (f : ℕ → ℕ) → ((i : ℕ) → i < n → ok i ≡ true → f i < m)
+    → ((i k : ℕ) → i < n → k < n → ok i ≡ true → ok k ≡ true → f i ≡ f k → i ≡ k) → howMany ok n ≤ m
+unfolding howMany
+count-into ok zero m f low apart = omega arith
+count-into ok (suc n) m f low apart = go (ok n) refl m low (λ g k l a. count-into ok n k g l a)
+  where
+    go : (b : Bool) → ok n ≡ b → (m : ℕ) → ((i : ℕ) → i < suc n → ok i ≡ true → f i < m)
+        → ((g : ℕ → ℕ) (k : ℕ) → ((i : ℕ) → i < n → ok i ≡ true → g i < k) → ((i j : ℕ) → i < n → j < n → ok i ≡ true → ok j ≡ true → g i ≡ g j → i ≡ j) → howMany ok n ≤ k)
+        → howMany ok n + (if ok n then 1 else 0) ≤ m
+    go false e m low rest = rw e (omega (arith, rest f m (λ i h. low i (omega arith)) (λ i k h l. apart i k (omega arith) (omega arith))))
+    go true e zero low rest = absurd (omega (arith, low n (omega arith) e))
+    go true e (suc m) low rest =
+        let other : (i : ℕ) → i < n → ok i ≡ true → f i ≢ f n = λ i h q z. omega (arith, apart i n (omega arith) (omega arith) q e z) in
+        let r = rest (λ i. instead m (f n) (f i)) m
+        (λ i h q. instead-below m (f n) (f i) (low n (omega arith) e) (low i (omega arith) q) (other i h q))
+        (λ i k h l q w z. apart i k (omega arith) (omega arith) q w (instead-apart m (f n) (f i) (f k) (other i h q) (other k l w) z)) in
+        rw e (omega arith)
+
+all-pass : (n : ℕ) → howMany (λ _. true) n ≡ n
+unfolding howMany
+all-pass zero = refl
+all-pass (suc n) = omega (arith, all-pass n)
+
+-- the pigeonhole: n distinct numbers below m are at most m
+pub pigeons : (m n : ℕ) (f : ℕ → ℕ) → ((i : ℕ) → i < n → f i < m) → ((i k : ℕ) → i < n → k < n → f i ≡ f k → i ≡ k) → n ≤ m
+pigeons m n f low apart = omega (arith, all-pass n, count-into (λ _. true) n m f (λ i h _. low i h) (λ i k h l _ _ e. apart i k h l e))
+
+-- the same of a list: distinct numbers below m are at most m
+pub distinct-few : (m : ℕ) (l : List ℕ) → ((i : ℕ) → i < length l → getD l i 0 < m)
+    → ((i k : ℕ) → i < length l → k < length l → getD l i 0 ≡ getD l k 0 → i ≡ k) → length l ≤ m
+distinct-few m l low apart = pigeons m (length l) (λ i. getD l i 0) low apart
+
+-- ---- m distinct numbers below n pass: at least m do
+howMany-up : (ok : ℕ → Bool) (i n : ℕ) → i ≤ n → howMany ok i ≤ howMany ok n
+unfolding howMany
+howMany-up ok i zero h = rw (let z : i ≡ 0 = omega arith in z) (omega arith)
+howMany-up ok i (suc n) h = elim (ℕ-discrete i (suc n)) [ yes e ↦ rw e (omega arith) | no d ↦ omega (arith, howMany-up ok i n (omega arith)) ]
+
+howMany-at : (ok : ℕ → Bool) (i n : ℕ) → i < n → ok i ≡ true → howMany ok i < howMany ok n
+unfolding howMany
+howMany-at ok i n h e =
+    let u = howMany-up ok (suc i) n h in
+    omega (arith, rw e at u)
+
+pub count-from : (ok : ℕ → Bool) (n m : ℕ) (g : ℕ → ℕ) → ((k : ℕ) → k < m → (g k < n) × (ok (g k) ≡ true)) → ((i k : ℕ) → i < m → k < m → g i ≡ g k → i ≡ k) → m ≤ howMany ok n
+count-from ok n m g good apart =
+    pigeons (howMany ok n) m (λ k. howMany ok (g k)) (λ k h. howMany-at ok (g k) n (good k h .0) (good k h .1))
+    (λ i k h l e. apart i k h l (elim (decLt (g i) (g k)) [
+      | yes y ↦ absurd (omega (arith, howMany-at ok (g i) (g k) y (good i h .1)))
+      | no y ↦ elim (decLt (g k) (g i)) [ yes z ↦ absurd (omega (arith, howMany-at ok (g k) (g i) z (good k l .1))) | no z ↦ omega arith ]
+    ]))

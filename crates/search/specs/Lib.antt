@@ -1,0 +1,4 @@
+pub mod Words
+pub mod Below
+pub mod First
+pub mod Best
