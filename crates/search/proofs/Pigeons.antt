@@ -18,7 +18,7 @@ instead a b x = if x is a then b else x
 instead-is : (a b x : ℕ) → ((x ≡ a) × (instead a b x ≡ b)) ⊎ ((x ≢ a) × (instead a b x ≡ x))
 instead-is a b x = elim (ℕ-discrete x a) [ yes e ↦ inl (e, rw (eq-eqb _ _ e)) | no d ↦ inr (d, rw (ne-eqb _ _ d)) ]
 
--- where only x may be b, it stays distinct: so m values that leave out b fit below m, b in the stead of m
+-- numbers other than b stay distinct with b in a's stead, and those below suc m get below m with b in m's stead
 instead-apart : (a b x y : ℕ) → x ≢ b → y ≢ b → instead a b x ≡ instead a b y → x ≡ y
 instead-apart a b x y dx dy e =
     ⊎-elim
@@ -46,6 +46,15 @@ count-into ok (suc n) m f low apart = go (ok n) refl m low (λ g k l a. count-in
         (λ i h q. instead-below m (f n) (f i) (low n (omega arith) e) (low i (omega arith) q) (other i h q))
         (λ i k h l q w z. apart i k (omega arith) (omega arith) q w (instead-apart m (f n) (f i) (f k) (other i h q) (other k l w) z)) in
         rw e (omega arith)
+
+-- and where none of those numbers is b, there are fewer than m
+pub count-avoiding : (ok : ℕ → Bool) (n m b : ℕ) (f : ℕ → ℕ) → b < m → ((i : ℕ) → i < n → ok i ≡ true → (f i < m) × (f i ≢ b))
+    → ((i k : ℕ) → i < n → k < n → ok i ≡ true → ok k ≡ true → f i ≡ f k → i ≡ k) → howMany ok n < m
+count-avoiding ok n zero b f l low apart = absurd (omega arith)
+count-avoiding ok n (suc m) b f l low apart =
+    let r = count-into ok n m (λ i. instead m b (f i)) (λ i h q. instead-below m b (f i) l (low i h q .0) (low i h q .1))
+    (λ i k h g q w z. apart i k h g q w (instead-apart m b (f i) (f k) (low i h q .1) (low k g w .1) z)) in
+    omega arith
 
 all-pass : (n : ℕ) → howMany (λ _. true) n ≡ n
 unfolding howMany

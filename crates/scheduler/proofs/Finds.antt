@@ -1,0 +1,106 @@
+-- What the searches of the rules find. Assumes nothing.
+use Prim.Native.Nat.{ℕ, _<_, _≤_}
+use mathlib.Core.Path.{_≡_, sym, _∙_}
+use mathlib.Core.List.{List}
+use mathlib.Core.Logic.{_≢_, ⊎-elim}
+use native.Mathlib.Omega.{arith}
+use native.Mathlib.Nat.{le-refl, le-trans, le-of-lt}
+use native.Mathlib.Decide.{decLt}
+use lib.ListN.{length, getD, List·getD-eq-default}
+use borrow.Author.Tests.{lt-ltb, le-leb, ltb-true, ltb-false, leb-true, eqb-true, eqb-false}
+use Rattle.search.specs.Words.{_is_}
+use Rattle.search.specs.First.{first}
+use Rattle.search.proofs.Tests.{and-left, and-right}
+use Rattle.search.proofs.Firsts.{first-law}
+use Rattle.search.proofs.Bests.{Best, best-law}
+use Rattle.scheduler.specs.Limits.{processors, tasks, nobody}
+use Rattle.scheduler.specs.Words.{rankOf, link, runs, linkOf, runOf, isRunnable, isHigher, isUnlinked}
+use Rattle.scheduler.specs.Arriving.{isUsed, isFree, lowestFree, linksLower, lowestLinked}
+use Rattle.scheduler.specs.Leaving.{nextTask}
+use Rattle.scheduler.specs.Placed.{Runnable, Sized, Unlinked}
+use Rattle.scheduler.specs.Changes.{Chosen}
+use Rattle.scheduler.specs.declared.Jobs.{Jobs}
+use Rattle.scheduler.specs.declared.Processors.{Processors}
+
+-- ---- a task in a list of processors' tasks: where it stands first
+module _ (l : List ℕ) (t : ℕ) where
+  abbrev place : ℕ
+  place = first (λ k. getD l k nobody is t) 0 processors
+
+  here : place < processors → getD l place nobody ≡ t
+  here h = eqb-true _ _ (first-law (λ k. getD l k nobody is t) 0 processors .here h)
+
+  module _ (sized : length l ≡ processors) (some : t ≢ nobody) where
+    nowhere : processors ≤ place → (k : ℕ) → getD l k nobody ≢ t
+    nowhere h k e = elim (decLt k processors) [
+      | yes y ↦ eqb-false _ _ (first-law (λ k. getD l k nobody is t) 0 processors .before k (omega arith) (omega arith)) e
+      | no y ↦ some (sym e ∙ List·getD-eq-default l nobody {n = k} (omega arith))
+    ]
+
+    somewhere : (k : ℕ) → getD l k nobody ≡ t → place < processors
+    somewhere k e = elim (decLt place processors) [ yes y ↦ y | no y ↦ absurd (nowhere (omega arith) k e) ]
+
+module _ (p : Processors) (t : ℕ) where
+  pub link-here : linkOf p t < processors → link p (linkOf p t) ≡ t
+  unfolding linkOf
+  link-here h = here (p .linked) t h
+
+  pub run-here : runOf p t < processors → runs p (runOf p t) ≡ t
+  unfolding runOf
+  run-here h = here (p .running) t h
+
+  module _ (Z : Sized p) (some : t ≢ nobody) where
+    pub link-nowhere : processors ≤ linkOf p t → Unlinked p t
+    unfolding linkOf
+    link-nowhere h = nowhere (p .linked) t (Z .links) some h
+
+    pub link-somewhere : (k : ℕ) → link p k ≡ t → linkOf p t < processors
+    unfolding linkOf
+    link-somewhere k e = somewhere (p .linked) t (Z .links) some k e
+
+    pub run-nowhere : processors ≤ runOf p t → (k : ℕ) → runs p k ≢ t
+    unfolding runOf
+    run-nowhere h = nowhere (p .running) t (Z .runnings) some h
+
+    pub run-somewhere : (k : ℕ) → runs p k ≡ t → runOf p t < processors
+    unfolding runOf
+    run-somewhere k e = somewhere (p .running) t (Z .runnings) some k e
+
+-- ---- the lowest-numbered unlinked processor is one choice
+pub lowest-chosen : (p : Processors) → p .count ≤ processors → Chosen p (lowestFree p)
+unfolding lowestFree
+lowest-chosen p fits =
+    let F = first-law (isFree p) 0 processors in
+    record {
+      free = λ h. let e = F .here h in (ltb-true _ _ (and-left _ _ e), eqb-true _ _ (and-right (isUsed p _) _ e));
+      none = λ h m l e. eqb-false _ _ (rw (lt-ltb _ _ l) at (F .before m (omega arith) (omega arith))) e;
+    }
+
+-- ---- the processor with the lowest-priority link
+pub lowest-is : (p : Processors) (j : Jobs) → Best (isUsed p) (λ a b. rankOf j (link p a) ≤ rankOf j (link p b)) processors processors (lowestLinked p j)
+unfolding lowestLinked
+lowest-is p j =
+    best-law (isUsed p) (linksLower p j) (λ a b. rankOf j (link p a) ≤ rankOf j (link p b)) processors
+    (λ a. le-refl _) (λ a b c x y. le-trans x y) (λ a b e. ltb-false _ _ e) (λ a b e. le-of-lt (ltb-true _ _ e)) processors (le-refl processors)
+
+-- ---- n is the highest-priority unlinked runnable job, or there is none
+pub record Next (p : Processors) (j : Jobs) (n : ℕ) : Type 0 where
+  pub one : n < tasks → Runnable j n × Unlinked p n
+  pub top : (v : ℕ) → Runnable j v → Unlinked p v → (n < tasks) × (rankOf j n ≤ rankOf j v)
+
+pub next-is : (p : Processors) (j : Jobs) → Sized p → Next p j (nextTask p j)
+unfolding nextTask
+next-is p j Z =
+    let B = best-law (isUnlinked p j) (isHigher j) (λ a b. rankOf j b ≤ rankOf j a) tasks
+    (λ a. le-refl _) (λ a b c x y. le-trans y x) (λ a b e. ltb-false _ _ e) (λ a b e. le-of-lt (ltb-true _ _ e)) tasks (le-refl tasks) in
+    record {
+      one = λ h.
+          let u = ⊎-elim (λ z. absurd (omega arith)) (λ z. z .1) (B .one) in (
+            record { task = h; mode = leb-true _ _ (and-left _ _ u) },
+            link-nowhere p _ Z (omega arith) (leb-true _ _ (and-right (isRunnable j _) _ u)),
+          );
+      top = λ v r n.
+          let out : processors ≤ linkOf p v = elim (decLt (linkOf p v) processors) [ yes y ↦ absurd (n _ (link-here p v y)) | no y ↦ omega arith ] in
+          let b = B .top v (r .task) (rw (le-leb _ _ (r .mode), le-leb _ _ out)) in
+          (b .0, b .2);
+    }

@@ -1,0 +1,164 @@
+-- The laws of links and placements, as the layers above cite them. Ranks are distinct where a law's change of jobs says so (`Apart`). Assumes nothing.
+use Prim.Native.Nat.{ℕ, suc, _<_, _≤_}
+use mathlib.Core.Path.{_≡_, refl, sym, ap, subst, _∙_}
+use mathlib.Core.Bool.{Bool, true, false, _&&_}
+use mathlib.Core.Logic.{_≢_, _⊎_, inl, _↔_}
+use native.Mathlib.Omega.{arith}
+use native.Mathlib.Decide.{decLt}
+use lib.Dec.{ltb}
+use lib.ListN.{getD, replicate, getD-replicate, List·getD-eq-default}
+use Rattle.search.specs.Words.{if_then_else_}
+use Rattle.search.specs.Below.{howMany}
+use Rattle.scheduler.specs.Limits.{processors, tasks, nobody, preemptable, nonPreemptable}
+use Rattle.scheduler.specs.Words.{link, runs, linkOf, runOf, modeOf, isHigher, isAhead, isAwaited, noneLinked, placeOn}
+use Rattle.scheduler.specs.Arriving.{lowestFree, lowestLinked, isPreempted, displacing, arrivingOn, arriving}
+use Rattle.scheduler.specs.Leaving.{becomingPreemptable, nextTask, filling, refilling, leavingFrom, leaving, givingWay}
+use Rattle.scheduler.specs.Placed.{Runnable, Sized, Placed, LinkedOnly}
+use Rattle.scheduler.specs.Changes.{Alike, Joins, Hardens, Softens, Raises, Leaves, Lowers, Chosen}
+use Rattle.scheduler.specs.declared.Jobs.{Jobs}
+use Rattle.scheduler.specs.declared.Processors.{Processors}
+use Rattle.scheduler.proofs.Finds.{link-here, link-somewhere, run-here, run-somewhere, lowest-chosen}
+use Rattle.scheduler.proofs.Coming.{coming-placed}
+use Rattle.scheduler.proofs.Going.{raised-placed, gives-way-placed}
+use Rattle.scheduler.proofs.Staying.{alike-placed, harden-placed, soften-placed}
+use Rattle.scheduler.proofs.Counting.{linked-counted}
+use Rattle.scheduler.proofs.Waits.{coming-waits, soften-waits, going-waits, gives-way-waits}
+
+-- ---- where a task is
+module _ (p : Processors) (Z : Sized p) (t : ℕ) (t-in : t < tasks) where
+  pub linked-iff : (linkOf p t < processors) ↔ ((k : ℕ) × (link p k ≡ t))
+  linked-iff = ((λ h. (linkOf p t, link-here p t h)), λ x. link-somewhere p t Z (λ e. omega arith) (x .0) (x .1))
+
+  pub running-iff : (runOf p t < processors) ↔ ((k : ℕ) × (runs p k ≡ t))
+  running-iff = ((λ h. (runOf p t, run-here p t h)), λ x. run-somewhere p t Z (λ e. omega arith) (x .0) (x .1))
+
+-- ---- nobody linked and nobody runnable
+all-nobody : (k : ℕ) → _≡_ {A = ℕ} (getD (replicate processors nobody) k nobody) nobody
+all-nobody k = elim (decLt k processors) [
+  | yes h ↦ getD-replicate processors k nobody nobody h
+  | no h ↦ List·getD-eq-default (replicate processors nobody) nobody {n = k} (omega arith)
+]
+
+pub none-placed : (count : ℕ) (j : Jobs) → count ≤ processors → ((t : ℕ) → Runnable j t → ⊥) → Placed (noneLinked count) j
+unfolding noneLinked
+none-placed count j h none = record {
+  settled = record {
+    sized = record { links = refl; runnings = refl };
+    fits = h;
+    linked-runnable = λ k d. absurd (d (all-nobody k));
+    linked-once = λ k m d q. absurd (d (all-nobody k));
+    idle = λ k e. all-nobody k;
+    busy = λ k d. absurd (d (all-nobody k));
+    running-runnable = λ k d. absurd (d (all-nobody k));
+    running-once = λ k m d q. absurd (d (all-nobody k));
+    running-linked = λ k m d q. absurd (d (all-nobody k));
+    preemptable-linked = λ k d q. absurd (d (all-nobody k));
+    nonpreemptable-runs = λ t l q. absurd (none t (record { task = l; mode = omega arith }));
+    beyond = λ k l. (all-nobody k, all-nobody k);
+  };
+  highest = λ k t l r n. absurd (none t r);
+}
+
+module _ (p : Processors) (j j′ : Jobs) (P : Placed p j) where
+  -- ---- each move keeps `Placed`
+  -- nothing changes
+  pub alike-law : Alike j j′ → Placed p j′
+  alike-law A = alike-placed p j j′ P A
+
+  module _ (t : ℕ) where
+    -- t arrives or resumes, on whichever unlinked processor
+    pub arriving-on-law : Joins j j′ t → (k : ℕ) → Chosen p k → Placed (arrivingOn p j′ t k) j′
+    arriving-on-law J k C = coming-placed p j j′ t P J k C
+
+    -- on the lowest-numbered one
+    pub arriving-law : Joins j j′ t → Placed (arriving p j′ t) j′
+    unfolding arriving
+    arriving-law J = coming-placed p j j′ t P J (lowestFree p) (lowest-chosen p (P .settled .fits))
+
+    module _ (t-in : t < tasks) (on : runOf p t < processors) where
+      -- t, running, becomes non-preemptable
+      pub hardening-law : Hardens j j′ t → Placed p j′
+      hardening-law H = harden-placed p j j′ t P t-in on H
+
+      -- t, running, becomes preemptable
+      pub softening-law : Softens j j′ t → Placed (becomingPreemptable p t) j′
+      softening-law H = soften-placed p j j′ t P t-in on H
+
+      module _ (soft : modeOf j t ≡ preemptable) where
+        -- t leaves, while h takes its rank or none does
+        pub raising-law : (h : ℕ) → Raises j j′ t h → Placed (leaving p j′ t) j′
+        raising-law h L = raised-placed p j t P t-in on soft j′ h L
+
+        -- t leaves: as if another, any, had kept its rank
+        pub leaving-law : Leaves j j′ t → Placed (leaving p j′ t) j′
+        leaving-law L =
+            let same = L .others (suc t) (λ e. omega arith) .0 in
+            raising-law (suc t)
+            (record {
+              gone = L .gone;
+              up = omega arith;
+              by = inl same;
+              others = λ u d _. L .others u d .0;
+              modes = λ u d. L .others u d .1;
+              apart = L .apart;
+            })
+
+        -- t gives way after its own rank rose
+        pub giving-way-law : Lowers j j′ t → Placed (givingWay p j′ t) j′
+        giving-way-law L = gives-way-placed p j t P t-in on soft j′ L
+
+module _ (p : Processors) (j : Jobs) (P : Placed p j) (t : ℕ) (t-in : t < tasks) where
+  -- ---- who is linked, runs, and must
+  -- linked exactly when runnable with fewer than `count` runnable tasks of lower rank
+  pub linked-law : ((k : ℕ) × (link p k ≡ t)) ↔ (Runnable j t × (howMany (isAhead j t) tasks < p .count))
+  linked-law = linked-counted p j t P t-in
+
+  pub running-runnable : runOf p t < processors → Runnable j t
+  running-runnable on = subst (Runnable j) (run-here p t on) (P .settled .running-runnable (runOf p t) (λ e. omega (arith, run-here p t on)))
+
+  pub nonpreemptable-running : modeOf j t ≡ nonPreemptable → runOf p t < processors
+  nonpreemptable-running e = running-iff p (P .settled .sized) t t-in .1 (P .settled .nonpreemptable-runs t t-in e)
+
+-- ---- what the moves leave alone: who is linked but not running after a move was so before it, or is the one that arrived
+module _ (p : Processors) (j : Jobs) (P : Placed p j) (t u : ℕ) (j′ : Jobs) where
+  pub arriving-on-waits : (k : ℕ) → LinkedOnly (arrivingOn p j′ t k) u → (u ≡ t) ⊎ LinkedOnly p u
+  arriving-on-waits k X = coming-waits p j P t u j′ k X
+
+  pub softening-waits : LinkedOnly (becomingPreemptable p t) u → LinkedOnly p u
+  softening-waits X = soften-waits p j P t u X
+
+  pub leaving-waits : LinkedOnly (leaving p j′ t) u → LinkedOnly p u
+  leaving-waits X = going-waits p j P t u j′ X
+
+  pub giving-way-waits : LinkedOnly (givingWay p j′ t) u → LinkedOnly p u
+  giving-way-waits X = gives-way-waits p j P t u j′ X
+
+-- ---- and how many processors there are
+if-count : (b : Bool) (p q : Processors) (n : ℕ) → p .count ≡ n → q .count ≡ n → (if b then p else q) .count ≡ n
+if-count true p q n e f = e
+if-count false p q n e f = f
+
+module _ (p : Processors) (j : Jobs) (t : ℕ) where
+  pub arriving-on-count : (k : ℕ) → arrivingOn p j t k .count ≡ p .count
+  unfolding arrivingOn displacing
+  arriving-on-count k =
+      let l = lowestLinked p j in
+      if-count (ltb k processors) _ _ _ refl (if-count (ltb l processors && isHigher j t (link p l)) _ _ _ (if-count (isPreempted p j l) _ _ _ refl refl) refl)
+
+  pub softening-count : becomingPreemptable p t .count ≡ p .count
+  unfolding becomingPreemptable
+  softening-count = if-count (ltb (runOf p t) processors) _ _ _ (if-count (isAwaited p (runOf p t)) _ _ _ refl refl) refl
+
+  refilling-count : (f : Processors) (k : ℕ) → refilling f j k .count ≡ f .count
+  unfolding refilling filling
+  refilling-count f k = if-count (ltb (nextTask f j) tasks) _ _ _ (if-count (ltb (runOf f (nextTask f j)) processors) _ _ _ refl refl) refl
+
+  pub leaving-count : leaving p j t .count ≡ p .count
+  unfolding leaving leavingFrom
+  leaving-count =
+      let k = runOf p t in
+      if-count (ltb k processors) _ _ _ (if-count (isAwaited p k) _ _ _ refl (refilling-count (placeOn p k nobody) k)) refl
+
+  pub giving-way-count : givingWay p j t .count ≡ p .count
+  unfolding givingWay
+  giving-way-count = if-count (ltb (nextTask p j) tasks && isHigher j (nextTask p j) t) _ _ _ leaving-count refl

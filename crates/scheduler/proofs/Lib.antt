@@ -1,0 +1,11 @@
+pub mod Finds
+pub mod Moves
+pub mod Coming
+pub mod Freed
+pub mod Going
+pub mod Staying
+pub mod Counting
+pub mod Testing
+pub mod Waits
+pub mod Laws
+pub mod Sample

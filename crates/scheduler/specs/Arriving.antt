@@ -1,0 +1,50 @@
+-- The rule 'Arrive or resume'.
+use Prim.Native.Nat.{ℕ}
+use mathlib.Core.Bool.{Bool, _&&_}
+use lib.Dec.{ltb}
+use Rattle.search.specs.Words.{if_then_else_, _is_}
+use Rattle.search.specs.First.{first}
+use Rattle.search.specs.Best.{best}
+use Rattle.scheduler.specs.Limits.{processors, nobody, preemptable}
+use Rattle.scheduler.specs.Words.{rankOf, modeOf, link, runs, isHigher, placeOn, linkOn}
+use Rattle.scheduler.specs.declared.Jobs.{Jobs}
+use Rattle.scheduler.specs.declared.Processors.{Processors}
+
+abbrev pub isUsed : Processors → ℕ → Bool
+isUsed p k = ltb k (p .count)
+
+-- an unlinked processor
+abbrev pub isFree : Processors → ℕ → Bool
+isFree p k = isUsed p k && link p k is nobody
+
+-- the lowest-numbered unlinked processor, or `processors` where there is none
+unfoldable pub lowestFree : Processors → ℕ
+lowestFree p = first (isFree p) 0 processors
+
+-- the link of processor a has a lower priority than that of b
+abbrev pub linksLower : Processors → Jobs → ℕ → ℕ → Bool
+linksLower p j a b = isHigher j (link p b) (link p a)
+
+-- the processor with the lowest-priority linked job
+unfoldable pub lowestLinked : Processors → Jobs → ℕ
+lowestLinked p j = best (isUsed p) (linksLower p j) processors processors
+
+-- the job linked to processor k is running and preemptable
+abbrev pub isPreempted : Processors → Jobs → ℕ → Bool
+isPreempted p j k = runs p k is link p k && modeOf j (link p k) is preemptable
+
+-- Otherwise compare with the lowest-priority linked job, that of processor k: if the comer t is higher it takes that link,
+-- and runs at once only if the displaced job is running and preemptable.
+unfoldable pub displacing : Processors → Jobs → ℕ → ℕ → Processors
+displacing p j t k =
+    if ltb k processors && isHigher j t (link p k) then
+    if isPreempted p j k then placeOn p k t else linkOn p k t
+    else p
+
+-- With an unlinked processor k, link to it and run there. k is the one chosen, or `processors` where there is none.
+unfoldable pub arrivingOn : Processors → Jobs → ℕ → ℕ → Processors
+arrivingOn p j t k = if ltb k processors then placeOn p k t else displacing p j t (lowestLinked p j)
+
+-- The choice of document 01: the lowest-numbered such processor.
+unfoldable pub arriving : Processors → Jobs → ℕ → Processors
+arriving p j t = arrivingOn p j t (lowestFree p)

@@ -1,0 +1,7 @@
+pub mod Limits
+pub mod Words
+pub mod Arriving
+pub mod Leaving
+pub mod Placed
+pub mod PlacedTest
+pub mod Changes

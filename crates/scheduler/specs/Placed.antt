@@ -1,0 +1,54 @@
+-- The scheduler's part of the sound state: what holds of links and placements between events.
+use Prim.Native.Nat.{ℕ, _<_, _≤_}
+use mathlib.Core.Path.{_≡_}
+use mathlib.Core.Logic.{_≢_}
+use lib.ListN.{length}
+use Rattle.scheduler.specs.Limits.{processors, tasks, nobody, preemptable, nonPreemptable}
+use Rattle.scheduler.specs.Words.{link, runs, rankOf, modeOf}
+use Rattle.scheduler.specs.declared.Jobs.{Jobs}
+use Rattle.scheduler.specs.declared.Processors.{Processors}
+
+pub record Runnable (j : Jobs) (t : ℕ) : Type 0 where
+  pub task : t < tasks
+  pub mode : preemptable ≤ modeOf j t
+
+-- the arrays have their lengths; what the types say, and no test has to
+pub record Sized (p : Processors) : Type 0 where
+  pub links : length (p .linked) ≡ processors
+  pub runnings : length (p .running) ≡ processors
+
+-- links and placements, but for which of the runnable jobs are linked
+pub record Settled (p : Processors) (j : Jobs) : Type 0 where
+  pub sized : Sized p
+  pub fits : p .count ≤ processors
+  -- linked jobs are runnable, each linked once
+  pub linked-runnable : (k : ℕ) → link p k ≢ nobody → Runnable j (link p k)
+  pub linked-once : (k m : ℕ) → link p k ≢ nobody → link p k ≡ link p m → k ≡ m
+  -- a processor without a link is idle, one with a link is not
+  pub idle : (k : ℕ) → link p k ≡ nobody → runs p k ≡ nobody
+  pub busy : (k : ℕ) → link p k ≢ nobody → runs p k ≢ nobody
+  -- only runnable jobs run, each once, and if linked, linked there
+  pub running-runnable : (k : ℕ) → runs p k ≢ nobody → Runnable j (runs p k)
+  pub running-once : (k m : ℕ) → runs p k ≢ nobody → runs p k ≡ runs p m → k ≡ m
+  pub running-linked : (k m : ℕ) → runs p k ≢ nobody → runs p k ≡ link p m → k ≡ m
+  -- a preemptable running job is linked
+  pub preemptable-linked : (k : ℕ) → runs p k ≢ nobody → modeOf j (runs p k) ≡ preemptable → link p k ≡ runs p k
+  -- every non-preemptable job runs
+  pub nonpreemptable-runs : (t : ℕ) → t < tasks → modeOf j t ≡ nonPreemptable → (k : ℕ) × (runs p k ≡ t)
+  -- processors from the count on have neither
+  pub beyond : (k : ℕ) → p .count ≤ k → (link p k ≡ nobody) × (runs p k ≡ nobody)
+
+-- no processor is linked to t
+abbrev pub Unlinked : Processors → ℕ → Type 0
+Unlinked p t = (k : ℕ) → link p k ≢ t
+
+pub record Placed (p : Processors) (j : Jobs) : Type 0 where
+  pub settled : Settled p j
+  -- where a runnable job is unlinked, every processor has a link of higher priority
+  pub highest : (k t : ℕ) → k < p .count → Runnable j t → Unlinked p t → (link p k ≢ nobody) × (rankOf j (link p k) < rankOf j t)
+
+-- t is linked but not running
+pub record LinkedOnly (p : Processors) (t : ℕ) : Type 0 where
+  pub task : t < tasks
+  pub linked : (k : ℕ) × (link p k ≡ t)
+  pub waits : (k : ℕ) → runs p k ≢ t

@@ -1,0 +1,108 @@
+// Arrive or resume.
+use crate::Jobs;
+use crate::Processors;
+use crate::changing::link_on;
+use crate::changing::place_on;
+use crate::finding::is_higher;
+use crate::finding::is_preemptable;
+use crate::finding::link_at;
+use crate::finding::runs_at;
+
+ghost use mathlib.Core.Path.{_≡_};
+ghost use Prim.Native.Nat.{_<_};
+ghost use mathlib.Core.Bool.{_&&_};
+ghost use lib.Dec.{ltb};
+ghost use Rattle.search.specs.First.{bit, mask};
+ghost use Rattle.search.specs.Best.{better};
+ghost use Rattle.scheduler.specs.Limits.{processors};
+ghost use Rattle.scheduler.specs.Words.{link, isHigher};
+ghost use Rattle.scheduler.specs.Arriving.{isUsed, isFree, linksLower, lowestLinked, isPreempted, displacing, arriving};
+
+fn is_free(p: Processors, k: usize) -> bool
+    ensures { λ r. ⌜ r ≡ isFree p k ⌝ }
+{
+    (k < p.count) & (link_at(p, k) == Processors::NOBODY)
+}
+
+fn bit_of(b: bool) -> u32
+    ensures { λ r. ⌜ r ≡ bit b ⌝ }
+{
+    if b { 1 } else { 0 }
+}
+
+// The unlinked processors: bit k is processor k.
+fn free_mask(p: Processors) -> u32
+    ensures { λ r. ⌜ r ≡ mask (isFree p) 0 processors ⌝ }
+{
+    let mut free: u32 = 0;
+    for n in 0..Processors::LIMIT {
+        free = free * 2 + bit_of(is_free(p, Processors::LIMIT - 1 - n));
+    }
+    free
+}
+
+// The better of processor `k` and the best so far, where the better is the one with the lower-priority link.
+fn lower_link(p: Processors, jobs: Jobs, k: usize, best: usize) -> usize
+    ensures { λ r. ⌜ r ≡ better (isUsed p) (linksLower p jobs) processors k best ⌝ }
+{
+    if k < p.count {
+        if best == Processors::LIMIT {
+            k
+        } else {
+            let lower = is_higher(jobs, link_at(p, best), link_at(p, k));
+            search::pick(lower, k, best)
+        }
+    } else {
+        best
+    }
+}
+
+// The processor with the lowest-priority linked job.
+fn lowest_linked(p: Processors, jobs: Jobs) -> usize
+    ensures { λ r. ⌜ r ≡ lowestLinked p jobs ⌝ }
+{
+    let mut best = Processors::LIMIT;
+    for k in 0..Processors::LIMIT {
+        best = lower_link(p, jobs, k, best);
+    }
+    best
+}
+
+// The job linked to processor `k` is running and preemptable.
+fn is_preempted(p: Processors, jobs: Jobs, k: usize) -> bool
+    ensures { λ r. ⌜ r ≡ isPreempted p jobs k ⌝ }
+{
+    let t = link_at(p, k);
+    (runs_at(p, k) == t) & is_preemptable(jobs, t)
+}
+
+// The comer `t` takes the link of processor `k` if it is higher than the job linked there.
+fn displace(p: Processors, jobs: Jobs, t: u8, k: usize) -> Processors
+    ensures { λ r. ⌜ r ≡ displacing p jobs t k ⌝ }
+{
+    if k < Processors::LIMIT {
+        if is_higher(jobs, t, link_at(p, k)) {
+            if is_preempted(p, jobs, k) {
+                place_on(p, k, t)
+            } else {
+                link_on(p, k, t)
+            }
+        } else {
+            p
+        }
+    } else {
+        p
+    }
+}
+
+pub fn arrive(p: Processors, jobs: Jobs, t: u8) -> Processors
+    ensures { λ r. ⌜ r ≡ arriving p jobs t ⌝ }
+{
+    let free = free_mask(p);
+    if u32::count_ones(free) > 0 {
+        let k = u32::trailing_zeros(free) as usize;
+        place_on(p, k, t)
+    } else {
+        displace(p, jobs, t, lowest_linked(p, jobs))
+    }
+}
