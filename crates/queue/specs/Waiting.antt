@@ -26,14 +26,22 @@ empty = record { tasks = replicate capacity nobody; len = 0 }
 unfoldable pub appended : Queue → ℕ → Queue
 appended q t = if ltb (q .len) capacity then record { tasks = set (q .tasks) (q .len) t; len = q .len + 1 } else q
 
+-- each place holds what the next one held, the last one nobody
+unfoldable pub movedUp : List ℕ → List ℕ
+movedUp tasks = drop 1 tasks ++ (nobody ∷ [])
+
 -- the first is gone, and the others move up a place; an empty queue stays as it is
 unfoldable pub withoutFirst : Queue → Queue
-withoutFirst q = if ltb 0 (q .len) then record { tasks = drop 1 (q .tasks) ++ (nobody ∷ []); len = q .len - 1 } else q
+withoutFirst q = if ltb 0 (q .len) then record { tasks = movedUp (q .tasks); len = q .len - 1 } else q
 
 -- the first place at which t waits, or the capacity
 unfoldable pub placeOf : Queue → ℕ → ℕ
 placeOf q t = first (λ i. waiter q i is t) 0 capacity
 
+-- place i is before the length, or empty
+unfoldable pub isClear : Queue → ℕ → Bool
+isClear q i = leb (q .len) i implies (getD (q .tasks) i nobody is nobody)
+
 -- no more wait than can, and places past the length are empty
 unfoldable pub isTidy : Queue → Bool
-isTidy q = leb (q .len) capacity && allBelow capacity (λ i. leb (q .len) i implies (getD (q .tasks) i nobody is nobody))
+isTidy q = leb (q .len) capacity && allBelow capacity (isClear q)

@@ -1,6 +1,8 @@
 // A queue of tasks: who waits, in the order they asked. Every function answers for any content.
 ghost use mathlib.Core.Path.{_≡_};
-ghost use Rattle.queue.specs.Waiting.{waiter, empty, appended, withoutFirst, placeOf, isTidy};
+ghost use lib.ListN.{getD};
+ghost use Rattle.queue.specs.Limits.{nobody};
+ghost use Rattle.queue.specs.Waiting.{waiter, empty, appended, movedUp, withoutFirst, placeOf, isClear, isTidy};
 
 pub struct Queue {
     pub tasks: [u8; Queue::CAPACITY],
@@ -26,8 +28,9 @@ impl Queue {
     pub fn waiter(self, i: usize) -> u8
         ensures { λ r. ⌜ r ≡ waiter self i ⌝ }
     {
-        if i < self.len && i < Queue::CAPACITY {
-            self.tasks[i]
+        if i < self.len {
+            let tasks = self.tasks;
+            held(tasks, i)
         } else {
             Queue::NOBODY
         }
@@ -50,4 +53,72 @@ impl Queue {
         }
         next
     }
+
+    pub fn without_first(self) -> Queue
+        ensures { λ r. ⌜ r ≡ withoutFirst self ⌝ }
+    {
+        let len = self.len;
+        if 0 < len {
+            let tasks = self.tasks;
+            Queue {
+                tasks: moved_up(tasks),
+                len: len - 1,
+            }
+        } else {
+            self
+        }
+    }
+
+    // The first place at which `task` waits, or the capacity.
+    pub fn place_of(self, task: u8) -> usize
+        ensures { λ r. ⌜ r ≡ placeOf self task ⌝ }
+    {
+        let mut found = Queue::CAPACITY;
+        for n in 0..Queue::CAPACITY {
+            let i = Queue::CAPACITY - 1 - n;
+            found = search::pick(self.waiter(i) == task, i, found);
+        }
+        found
+    }
+
+    // No more wait than can, and places past the length are empty.
+    pub fn is_tidy(self) -> bool
+        ensures { λ r. ⌜ r ≡ isTidy self ⌝ }
+    {
+        let mut ok = self.len <= Queue::CAPACITY;
+        for i in 0..Queue::CAPACITY {
+            ok = ok & self.is_clear(i);
+        }
+        ok
+    }
+
+    // Place `i` is before the length, or empty.
+    fn is_clear(self, i: usize) -> bool
+        ensures { λ r. ⌜ r ≡ isClear self i ⌝ }
+    {
+        let tasks = self.tasks;
+        !(self.len <= i) | (held(tasks, i) == Queue::NOBODY)
+    }
+}
+
+// What place `i` holds, or nobody.
+fn held(tasks: [u8; Queue::CAPACITY], i: usize) -> u8
+    ensures { λ r. ⌜ r ≡ getD tasks i nobody ⌝ }
+{
+    if i < Queue::CAPACITY {
+        tasks[i]
+    } else {
+        Queue::NOBODY
+    }
+}
+
+// Each place holds what the next one held, the last one nobody.
+fn moved_up(tasks: [u8; Queue::CAPACITY]) -> [u8; Queue::CAPACITY]
+    ensures { λ r. ⌜ r ≡ movedUp tasks ⌝ }
+{
+    let mut next = [Queue::NOBODY; Queue::CAPACITY];
+    for i in 1..Queue::CAPACITY {
+        next[i - 1] = tasks[i];
+    }
+    next
 }

@@ -3,3 +3,5 @@ pub mod Firsts
 pub mod Masks
 pub mod Bests
 pub mod Pigeons
+pub mod Refusals
+pub mod Tables

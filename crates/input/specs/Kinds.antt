@@ -1,0 +1,34 @@
+-- Document 01, 'Events': the kinds, and the table that says which fields each one uses.
+use Prim.Native.Nat.{ℕ}
+use mathlib.Core.Bool.{Bool, true, false}
+use mathlib.Core.List.{List, [], _∷_}
+use lib.ListN.{getD}
+use Rattle.input.specs.declared.Fields.{Fields}
+
+abbrev pub arrival : ℕ
+arrival = 1
+
+abbrev pub finish : ℕ
+finish = 2
+
+abbrev pub request : ℕ
+request = 3
+
+abbrev pub completion : ℕ
+completion = 4
+
+abbrev pub passing : ℕ
+passing = 5
+
+abbrev pub neither : Fields
+neither = record { task = false; resource = false }
+
+abbrev pub taskAlone : Fields
+taskAlone = record { task = true; resource = false }
+
+abbrev pub both : Fields
+both = record { task = true; resource = true }
+
+-- by kind from 0 on; 0 is no kind, and neither is a number past the table
+unfoldable pub fieldsOf : ℕ → Fields
+fieldsOf k = getD (neither ∷ taskAlone ∷ taskAlone ∷ both ∷ both ∷ neither ∷ []) k neither

@@ -1,0 +1,31 @@
+-- The parts of a set-up. A place past a table holds 0.
+use Prim.Native.Nat.{ℕ}
+use mathlib.Core.Bool.{Bool, _&&_}
+use lib.Dec.{ltb}
+use lib.ListN.{getD}
+use Rattle.search.specs.Below.{anyBelow}
+use Rattle.input.specs.Limits.{mostTasks, mostResources, mostPairs}
+use Rattle.input.specs.declared.SetUp.{SetUp}
+
+module _ (c : SetUp) where
+  abbrev pub period : ℕ → ℕ
+  period t = getD (c .periods) t 0
+
+  abbrev pub kind : ℕ → ℕ
+  kind r = getD (c .kinds) r 0
+
+  abbrev pub outerOf : ℕ → ℕ
+  outerOf i = getD (c .outer) i 0
+
+  abbrev pub innerOf : ℕ → ℕ
+  innerOf i = getD (c .inner) i 0
+
+  -- some task, resource, pair of the set-up passes
+  abbrev pub someTask : (ℕ → Bool) → Bool
+  someTask ok = anyBelow mostTasks (λ t. ltb t (c .tasks) && ok t)
+
+  abbrev pub someResource : (ℕ → Bool) → Bool
+  someResource ok = anyBelow mostResources (λ r. ltb r (c .resources) && ok r)
+
+  abbrev pub somePair : (ℕ → Bool) → Bool
+  somePair ok = anyBelow mostPairs (λ i. ltb i (c .pairs) && ok i)

@@ -1,0 +1,61 @@
+// What a session is given: a set-up and events, by call or from bytes.
+mod clearing;
+mod events;
+mod grouping;
+mod judging;
+mod reading;
+
+pub use clearing::{clear, is_clear};
+pub use events::fields_of;
+pub use grouping::names_of;
+pub use judging::judge;
+pub use reading::{event_at, event_count, set_up_from};
+
+// The counts, the starting clock, each task's period, each resource's kind, and the nesting pairs.
+// Places past a count are not read.
+pub struct SetUp {
+    pub processors: usize,
+    pub tasks: usize,
+    pub resources: usize,
+    pub pairs: usize,
+    pub start: u32,
+    pub periods: [u16; SetUp::TASKS],
+    pub kinds: [u8; SetUp::RESOURCES],
+    pub outer: [u8; SetUp::PAIRS],
+    pub inner: [u8; SetUp::PAIRS],
+}
+
+impl SetUp {
+    pub const PROCESSORS: usize = 8;
+    pub const TASKS: usize = 32;
+    pub const RESOURCES: usize = 32;
+    pub const PAIRS: usize = 64;
+    // The kinds of resource.
+    pub const SHORT: u8 = 0;
+    pub const LONG: u8 = 1;
+    // How many bytes a set-up takes in a block.
+    pub const SIZE: usize = 232;
+}
+
+pub struct Event {
+    pub kind: u8,
+    pub task: u8,
+    pub resource: u8,
+    pub tick: u16,
+}
+
+impl Event {
+    pub const ARRIVAL: u8 = 1;
+    pub const FINISH: u8 = 2;
+    pub const REQUEST: u8 = 3;
+    pub const COMPLETION: u8 = 4;
+    pub const PASSING: u8 = 5;
+    // How many bytes an event takes in a block: kind, task, resource, reserve, tick.
+    pub const SIZE: usize = 6;
+}
+
+// Whether a kind of event names a task, and a resource.
+pub struct Fields {
+    pub task: bool,
+    pub resource: bool,
+}

@@ -1,0 +1,20 @@
+-- `held` meets its contract. Assumes nothing.
+use mathlib.Core.Path.{sym}
+use lib.ListN.{List·getD-eq-default}
+use borrow.Author.Needs.{needs}
+use Rattle.queue.specs.Limits.{nobody}
+use Rattle.queue.proofs.Lists.{getD-any}
+use Rattle.queue.proofs.held.Statement.{statement}
+use Rattle.queue.proofs.held.Tie as tie
+
+array-read-result : tie.Need-array-read-result
+array-read-result c = search needs
+
+returns : tie.Need-returns
+returns c = getD-any (c .before .args .t1) (c .before .args .i) 0 nobody (search needs)
+
+returns-2 : tie.Need-returns-2
+returns-2 c = sym (List·getD-eq-default (c .before .args .t1) nobody (search needs))
+
+pub held-spec : {M : Type 1} → statement M
+held-spec = tie.close (tie.spec array-read-result returns returns-2)

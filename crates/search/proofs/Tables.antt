@@ -1,0 +1,42 @@
+-- A list by its places has those places, and is built by a loop that sets one place a turn. Assumes nothing.
+use Prim.Native.Nat.{ℕ, zero, suc, _+_, _<_, _≤_}
+use native.Mathlib.Nat.{not-suc-le-zero}
+use native.Mathlib.Numerals.{add-one}
+use native.Mathlib.Omega.{arith}
+use native.Mathlib.Decide.{ℕ-discrete}
+use mathlib.Core.Path.{_≡_, refl, sym, ap, _∙_}
+use mathlib.Core.List.{List, [], _∷_, _++_, append-assoc, append-nil}
+use lib.ListN.{length, getD, set, drop, length-append, length-drop, List·getD-append, drop-of-length-le}
+use lib.Seq.{getD-at, set-at, drop-cons, ext-getD}
+use Rattle.search.specs.Table.{table}
+
+module _ {ℓ} {A : Type ℓ} (f : ℕ → A) where
+  pub table-length : (n : ℕ) → length (table f n) ≡ n
+  unfolding table
+  table-length zero = refl
+  table-length (suc n) = simp length-append (omega (arith, table-length n))
+
+  pub table-at : (n i : ℕ) (d : A) → i < n → getD (table f n) i d ≡ f i
+  unfolding table
+  table-at zero i d h = absurd (not-suc-le-zero h)
+  table-at (suc n) i d h = elim (ℕ-discrete i n) [
+    | yes e ↦ rw e (getD-at (table f n) (f n) [] d n (table-length n))
+    | no e ↦ List·getD-append (table f n) (f n ∷ []) d i (omega (arith, table-length n)) ∙ table-at n i d (omega arith)
+  ]
+
+  -- a list of n places with f i at each place is the table
+  pub table-of : (l : List A) (n : ℕ) (d : A) → length l ≡ n → ((i : ℕ) → i < n → getD l i d ≡ f i) → l ≡ table f n
+  table-of l n d h at = ext-getD d l (table f n) (h ∙ sym (table-length n)) (λ i g. at i (omega arith) ∙ sym (table-at n i d (omega arith)))
+
+  -- a loop that has set the places below i of l, at its start, after one turn, and at its end
+  pub table-none : (l : List A) → l ≡ table f 0 ++ drop 0 l
+  unfolding table
+  table-none l = refl
+
+  pub table-turn : (l : List A) (i : ℕ) → i < length l → set (table f i ++ drop i l) i (f i) ≡ table f (i + 1) ++ drop (i + 1) l
+  unfolding table
+  table-turn l i h =
+      rw (add-one i, drop-cons l i (f i) h, set-at (table f i) (getD l i (f i)) (drop (suc i) l) (f i) i (table-length i)) (sym (append-assoc (table f i) (f i ∷ []) (drop (suc i) l)))
+
+  pub table-all : (l : List A) (n : ℕ) → length l ≡ n → table f n ++ drop n l ≡ table f n
+  table-all l n h = rw (drop-of-length-le l {i = n} (omega arith)) (append-nil (table f n))
