@@ -1,7 +1,7 @@
 -- Document 01, 'Events': the kinds, and the table that says which fields each one uses.
 use Prim.Native.Nat.{ℕ}
-use mathlib.Core.Bool.{Bool, true, false}
-use mathlib.Core.List.{List, [], _∷_}
+use mathlib.Core.Bool.{true, false}
+use mathlib.Core.List.{[], _∷_}
 use lib.ListN.{getD}
 use Rattle.input.specs.declared.Fields.{Fields}
 

@@ -1,6 +1,8 @@
 pub mod Limits
 pub mod Words
+pub mod Sized
 pub mod Refusals
+pub mod Accepted
 pub mod Naming
 pub mod Groups
 pub mod Clearing

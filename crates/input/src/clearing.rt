@@ -1,6 +1,5 @@
 // A set-up with everything past its counts cleared.
 use crate::SetUp;
-
 ghost use mathlib.Core.Path.{_≡_};
 ghost use Rattle.input.specs.Limits.{mostTasks, mostResources, mostPairs};
 ghost use Rattle.input.specs.Clearing.{below, cleared, emptyFrom, isClear};

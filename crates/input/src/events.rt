@@ -1,12 +1,22 @@
 // Which fields of an event each kind uses.
 use crate::Fields;
-
 ghost use mathlib.Core.Path.{_≡_};
 ghost use Rattle.input.specs.Kinds.{fieldsOf};
 
-const NEITHER: Fields = Fields { task: false, resource: false };
-const TASK_ALONE: Fields = Fields { task: true, resource: false };
-const BOTH: Fields = Fields { task: true, resource: true };
+const NEITHER: Fields = Fields {
+    task: false,
+    resource: false,
+};
+
+const TASK_ALONE: Fields = Fields {
+    task: true,
+    resource: false,
+};
+
+const BOTH: Fields = Fields {
+    task: true,
+    resource: true,
+};
 
 // By kind, from 0 on.
 const FIELDS: [Fields; 6] = [NEITHER, TASK_ALONE, TASK_ALONE, BOTH, BOTH, NEITHER];

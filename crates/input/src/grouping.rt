@@ -1,7 +1,6 @@
 // The names of the groups: one pass over the pairs, in which the higher of two names gives way to the lower.
 use crate::SetUp;
 use crate::judging::kind_of;
-
 ghost use mathlib.Core.Path.{_≡_};
 ghost use Prim.Native.Nat.{_<_};
 ghost use lib.ListN.{getD};
@@ -16,7 +15,11 @@ fn name_at(names: [u8; SetUp::RESOURCES], r: u8) -> u8
     ensures { λ n. ⌜ n ≡ getD names r nothing ⌝ }
 {
     let i = r as usize;
-    if i < SetUp::RESOURCES { names[i] } else { NOTHING }
+    if i < SetUp::RESOURCES {
+        names[i]
+    } else {
+        NOTHING
+    }
 }
 
 fn merge(a: u8, b: u8, name: u8) -> u8

@@ -1,12 +1,10 @@
 // The refusals of a set-up, 1 to 5.
 use crate::SetUp;
-
 ghost use mathlib.Core.Path.{_≡_};
-ghost use mathlib.Core.Bool.{not};
 ghost use lib.Dec.{ltb};
 ghost use Rattle.search.specs.Words.{_is_};
 ghost use Rattle.input.specs.Limits.{long};
-ghost use Rattle.input.specs.Words.{period, kind, outerOf, innerOf, someTask, someResource, somePair};
+ghost use Rattle.input.specs.Words.{period, kind, someTask, someResource, somePair};
 ghost use Rattle.input.specs.Refusals.{inLimits, strayPair, isStray, isLongInShort, setUpRefusal};
 
 fn is_in_limits(setup: SetUp) -> bool
@@ -42,7 +40,11 @@ pub fn kind_of(setup: SetUp, r: u8) -> u8
     ensures { λ k. ⌜ k ≡ kind setup r ⌝ }
 {
     let i = r as usize;
-    if i < SetUp::RESOURCES { setup.kinds[i] } else { 0 }
+    if i < SetUp::RESOURCES {
+        setup.kinds[i]
+    } else {
+        0
+    }
 }
 
 // Pair (a, b) names a resource not in the table, or one resource twice.

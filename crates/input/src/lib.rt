@@ -5,11 +5,14 @@ mod grouping;
 mod judging;
 mod reading;
 
-pub use clearing::{clear, is_clear};
+pub use clearing::clear;
+pub use clearing::is_clear;
 pub use events::fields_of;
 pub use grouping::names_of;
 pub use judging::judge;
-pub use reading::{event_at, event_count, set_up_from};
+pub use reading::event_at;
+pub use reading::event_count;
+pub use reading::set_up_from;
 
 // The counts, the starting clock, each task's period, each resource's kind, and the nesting pairs.
 // Places past a count are not read.
@@ -27,11 +30,15 @@ pub struct SetUp {
 
 impl SetUp {
     pub const PROCESSORS: usize = 8;
+
     pub const TASKS: usize = 32;
+
     pub const RESOURCES: usize = 32;
+
     pub const PAIRS: usize = 64;
     // The kinds of resource.
     pub const SHORT: u8 = 0;
+
     pub const LONG: u8 = 1;
     // How many bytes a set-up takes in a block.
     pub const SIZE: usize = 232;
@@ -46,9 +53,13 @@ pub struct Event {
 
 impl Event {
     pub const ARRIVAL: u8 = 1;
+
     pub const FINISH: u8 = 2;
+
     pub const REQUEST: u8 = 3;
+
     pub const COMPLETION: u8 = 4;
+
     pub const PASSING: u8 = 5;
     // How many bytes an event takes in a block: kind, task, resource, reserve, tick.
     pub const SIZE: usize = 6;

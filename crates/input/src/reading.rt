@@ -1,15 +1,17 @@
 // A set-up and an event from bytes. What is not there reads 0.
 use crate::Event;
 use crate::SetUp;
-
 ghost use mathlib.Core.Path.{_≡_};
 ghost use Prim.Native.Nat.{_+_, _*_, _<_};
 ghost use Rattle.input.specs.Layout.{byte, startIn, periodsIn, kindsIn, sideIn, setUpIn, eventIn, eventCount};
 
 // Where each part of a set-up begins.
 const START_AT: usize = 4;
+
 const PERIODS_AT: usize = 8;
+
 const KINDS_AT: usize = PERIODS_AT + 2 * SetUp::TASKS;
+
 const PAIRS_AT: usize = KINDS_AT + SetUp::RESOURCES;
 
 fn byte_at(part: &[u8], i: usize) -> u8
@@ -95,7 +97,12 @@ pub fn event_at(part: &[u8], i: usize) -> Event
     ensures { λ r. ⌜ r ≡ eventIn (now (part .entry)) i ⌝ }
 {
     if part.len() / Event::SIZE < i {
-        return Event { kind: 0, task: 0, resource: 0, tick: 0 };
+        return Event {
+            kind: 0,
+            task: 0,
+            resource: 0,
+            tick: 0,
+        };
     }
     let at = Event::SIZE * i;
     Event {

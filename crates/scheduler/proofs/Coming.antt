@@ -9,13 +9,13 @@ use lib.Dec.{ltb}
 use borrow.Author.Tests.{lt-ltb, le-ltb, eq-eqb, ltb-true, ltb-false, eqb-true}
 use Rattle.search.specs.Words.{if_then_else_, _is_}
 use Rattle.search.proofs.Tests.{and-left, and-right, never}
-use Rattle.scheduler.specs.Limits.{processors, nobody, preemptable}
-use Rattle.scheduler.specs.Words.{link, runs, rankOf, modeOf, isHigher, placeOn, linkOn}
+use Rattle.processors.specs.Limits.{processors, nobody, preemptable}
+use Rattle.processors.specs.Words.{link, runs, rankOf, modeOf, isHigher, placeOn, linkOn}
 use Rattle.scheduler.specs.Arriving.{lowestLinked, isPreempted, displacing, arrivingOn}
 use Rattle.scheduler.specs.Placed.{Runnable, Settled, Placed, Unlinked}
 use Rattle.scheduler.specs.Changes.{Joins, Chosen}
-use Rattle.scheduler.specs.declared.Jobs.{Jobs}
-use Rattle.scheduler.specs.declared.Processors.{Processors}
+use Rattle.processors.specs.declared.Jobs.{Jobs}
+use Rattle.processors.specs.declared.Processors.{Processors}
 use Rattle.scheduler.proofs.Finds.{lowest-is}
 use Rattle.scheduler.proofs.Moves.{Put, put-place, put-link, put-again, put-at, clear, start, relink, rejob}
 

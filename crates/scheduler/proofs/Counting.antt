@@ -9,11 +9,11 @@ use borrow.Author.Tests.{lt-ltb, le-leb, ltb-true, leb-true}
 use Rattle.search.specs.Below.{howMany}
 use Rattle.search.proofs.Tests.{and-left, and-right}
 use Rattle.search.proofs.Pigeons.{count-avoiding, count-from}
-use Rattle.scheduler.specs.Limits.{processors, tasks, nobody}
-use Rattle.scheduler.specs.Words.{rankOf, link, linkOf, isRunnable, isAhead}
+use Rattle.processors.specs.Limits.{processors, tasks, nobody}
+use Rattle.processors.specs.Words.{rankOf, link, linkOf, isRunnable, isAhead}
 use Rattle.scheduler.specs.Placed.{Runnable, Placed}
-use Rattle.scheduler.specs.declared.Jobs.{Jobs}
-use Rattle.scheduler.specs.declared.Processors.{Processors}
+use Rattle.processors.specs.declared.Jobs.{Jobs}
+use Rattle.processors.specs.declared.Processors.{Processors}
 use Rattle.scheduler.proofs.Finds.{link-here, link-nowhere, link-somewhere}
 
 module _ (p : Processors) (j : Jobs) (t : ℕ) (P : Placed p j) where

@@ -13,14 +13,14 @@ use Rattle.search.specs.First.{first}
 use Rattle.search.proofs.Tests.{and-left, and-right}
 use Rattle.search.proofs.Firsts.{first-law}
 use Rattle.search.proofs.Bests.{Best, best-law}
-use Rattle.scheduler.specs.Limits.{processors, tasks, nobody}
-use Rattle.scheduler.specs.Words.{rankOf, link, runs, linkOf, runOf, isRunnable, isHigher, isUnlinked}
+use Rattle.processors.specs.Limits.{processors, tasks, nobody}
+use Rattle.processors.specs.Words.{rankOf, link, runs, linkOf, runOf, isRunnable, isHigher, isUnlinked}
 use Rattle.scheduler.specs.Arriving.{isUsed, isFree, lowestFree, linksLower, lowestLinked}
 use Rattle.scheduler.specs.Leaving.{nextTask}
 use Rattle.scheduler.specs.Placed.{Runnable, Sized, Unlinked}
 use Rattle.scheduler.specs.Changes.{Chosen}
-use Rattle.scheduler.specs.declared.Jobs.{Jobs}
-use Rattle.scheduler.specs.declared.Processors.{Processors}
+use Rattle.processors.specs.declared.Jobs.{Jobs}
+use Rattle.processors.specs.declared.Processors.{Processors}
 
 -- ---- a task in a list of processors' tasks: where it stands first
 module _ (l : List ℕ) (t : ℕ) where

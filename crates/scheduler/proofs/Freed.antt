@@ -5,13 +5,13 @@ use mathlib.Core.Logic.{_≢_, _⊎_, inl, inr, ⊎-elim}
 use native.Mathlib.Omega.{arith}
 use native.Mathlib.Decide.{ℕ-discrete, decLt}
 use borrow.Author.Tests.{lt-ltb, le-ltb}
-use Rattle.scheduler.specs.Limits.{processors, tasks, nobody}
-use Rattle.scheduler.specs.Words.{link, runs, rankOf, runOf, placeOn, linkOn}
+use Rattle.processors.specs.Limits.{processors, tasks, nobody}
+use Rattle.processors.specs.Words.{link, runs, rankOf, runOf, placeOn, linkOn}
 use Rattle.scheduler.specs.Leaving.{nextTask, filling, refilling}
 use Rattle.scheduler.specs.Placed.{Runnable, Settled, Placed, Unlinked}
 use Rattle.scheduler.specs.Changes.{Apart}
-use Rattle.scheduler.specs.declared.Jobs.{Jobs}
-use Rattle.scheduler.specs.declared.Processors.{Processors}
+use Rattle.processors.specs.declared.Jobs.{Jobs}
+use Rattle.processors.specs.declared.Processors.{Processors}
 use Rattle.scheduler.proofs.Finds.{run-here, run-nowhere, next-is}
 use Rattle.scheduler.proofs.Moves.{Put, put-place, put-link, put-at, start, relink}
 

@@ -9,13 +9,13 @@ use lib.Dec.{ltb}
 use borrow.Author.Tests.{lt-ltb, eq-eqb, ne-eqb, ltb-true, ltb-false}
 use Rattle.search.specs.Words.{if_then_else_}
 use Rattle.search.proofs.Tests.{and-left, and-right}
-use Rattle.scheduler.specs.Limits.{processors, tasks, nobody, preemptable}
-use Rattle.scheduler.specs.Words.{link, runs, rankOf, modeOf, runOf, isHigher, isAwaited, placeOn}
+use Rattle.processors.specs.Limits.{processors, tasks, nobody, preemptable}
+use Rattle.processors.specs.Words.{link, runs, rankOf, modeOf, runOf, isHigher, isAwaited, placeOn}
 use Rattle.scheduler.specs.Leaving.{nextTask, refilling, leavingFrom, leaving, givingWay}
 use Rattle.scheduler.specs.Placed.{Runnable, Settled, Placed, Unlinked}
 use Rattle.scheduler.specs.Changes.{Apart, Raises, Lowers}
-use Rattle.scheduler.specs.declared.Jobs.{Jobs}
-use Rattle.scheduler.specs.declared.Processors.{Processors}
+use Rattle.processors.specs.declared.Jobs.{Jobs}
+use Rattle.processors.specs.declared.Processors.{Processors}
 use Rattle.scheduler.proofs.Finds.{run-here, next-is}
 use Rattle.scheduler.proofs.Moves.{Put, put-place, put-at, clear, rejob}
 use Rattle.scheduler.proofs.Freed.{refilled-placed}

@@ -9,14 +9,14 @@ use lib.Dec.{ltb}
 use lib.ListN.{getD, replicate, getD-replicate, List·getD-eq-default}
 use Rattle.search.specs.Words.{if_then_else_}
 use Rattle.search.specs.Below.{howMany}
-use Rattle.scheduler.specs.Limits.{processors, tasks, nobody, preemptable, nonPreemptable}
-use Rattle.scheduler.specs.Words.{link, runs, linkOf, runOf, modeOf, isHigher, isAhead, isAwaited, noneLinked, placeOn}
+use Rattle.processors.specs.Limits.{processors, tasks, nobody, preemptable, nonPreemptable}
+use Rattle.processors.specs.Words.{link, runs, linkOf, runOf, modeOf, isHigher, isAhead, isAwaited, noneLinked, placeOn}
 use Rattle.scheduler.specs.Arriving.{lowestFree, lowestLinked, isPreempted, displacing, arrivingOn, arriving}
 use Rattle.scheduler.specs.Leaving.{becomingPreemptable, nextTask, filling, refilling, leavingFrom, leaving, givingWay}
 use Rattle.scheduler.specs.Placed.{Runnable, Sized, Placed, LinkedOnly}
 use Rattle.scheduler.specs.Changes.{Alike, Joins, Hardens, Softens, Raises, Leaves, Lowers, Chosen}
-use Rattle.scheduler.specs.declared.Jobs.{Jobs}
-use Rattle.scheduler.specs.declared.Processors.{Processors}
+use Rattle.processors.specs.declared.Jobs.{Jobs}
+use Rattle.processors.specs.declared.Processors.{Processors}
 use Rattle.scheduler.proofs.Finds.{link-here, link-somewhere, run-here, run-somewhere, lowest-chosen}
 use Rattle.scheduler.proofs.Coming.{coming-placed}
 use Rattle.scheduler.proofs.Going.{raised-placed, gives-way-placed}

@@ -5,7 +5,5 @@ pub mod Freed
 pub mod Going
 pub mod Staying
 pub mod Counting
-pub mod Testing
 pub mod Waits
 pub mod Laws
-pub mod Sample

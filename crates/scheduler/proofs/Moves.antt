@@ -6,11 +6,11 @@ use native.Mathlib.Omega.{arith}
 use native.Mathlib.Decide.{ℕ-discrete}
 use lib.ListN.{length-set}
 use lib.Seq.{getD-set-same, getD-set-other}
-use Rattle.scheduler.specs.Limits.{processors, nobody, preemptable, nonPreemptable}
-use Rattle.scheduler.specs.Words.{link, runs, modeOf, placeOn, linkOn}
+use Rattle.processors.specs.Limits.{processors, nobody, preemptable, nonPreemptable}
+use Rattle.processors.specs.Words.{link, runs, modeOf, placeOn, linkOn}
 use Rattle.scheduler.specs.Placed.{Runnable, Sized, Settled, Unlinked}
-use Rattle.scheduler.specs.declared.Jobs.{Jobs}
-use Rattle.scheduler.specs.declared.Processors.{Processors}
+use Rattle.processors.specs.declared.Jobs.{Jobs}
+use Rattle.processors.specs.declared.Processors.{Processors}
 
 -- p′ is p but at k, which is linked to a and runs v
 pub record Put (p p′ : Processors) (k a v : ℕ) : Type 0 where

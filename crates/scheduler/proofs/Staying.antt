@@ -5,13 +5,13 @@ use mathlib.Core.Logic.{_≢_, _⊎_, inl, inr, ⊎-elim}
 use native.Mathlib.Omega.{arith}
 use native.Mathlib.Decide.{ℕ-discrete, decLt}
 use borrow.Author.Tests.{lt-ltb, eq-eqb, ne-eqb}
-use Rattle.scheduler.specs.Limits.{processors, tasks, nobody, preemptable, nonPreemptable}
-use Rattle.scheduler.specs.Words.{link, runs, rankOf, modeOf, runOf, placeOn}
+use Rattle.processors.specs.Limits.{processors, tasks, nobody, preemptable, nonPreemptable}
+use Rattle.processors.specs.Words.{link, runs, rankOf, modeOf, runOf, placeOn}
 use Rattle.scheduler.specs.Leaving.{becomingPreemptable}
 use Rattle.scheduler.specs.Placed.{Runnable, Settled, Placed, Unlinked}
 use Rattle.scheduler.specs.Changes.{Alike, Hardens, Softens}
-use Rattle.scheduler.specs.declared.Jobs.{Jobs}
-use Rattle.scheduler.specs.declared.Processors.{Processors}
+use Rattle.processors.specs.declared.Jobs.{Jobs}
+use Rattle.processors.specs.declared.Processors.{Processors}
 use Rattle.scheduler.proofs.Finds.{run-here}
 use Rattle.scheduler.proofs.Moves.{Put, put-place, rejob}
 

@@ -9,13 +9,13 @@ use lib.Dec.{ltb}
 use borrow.Author.Tests.{lt-ltb, le-ltb, ltb-true}
 use Rattle.search.specs.Words.{if_then_else_}
 use Rattle.search.proofs.Tests.{and-left}
-use Rattle.scheduler.specs.Limits.{processors, tasks, nobody}
-use Rattle.scheduler.specs.Words.{link, runs, runOf, isHigher, isAwaited, placeOn, linkOn}
+use Rattle.processors.specs.Limits.{processors, tasks, nobody}
+use Rattle.processors.specs.Words.{link, runs, runOf, isHigher, isAwaited, placeOn, linkOn}
 use Rattle.scheduler.specs.Arriving.{lowestLinked, isPreempted, displacing, arrivingOn}
 use Rattle.scheduler.specs.Leaving.{becomingPreemptable, nextTask, filling, refilling, leavingFrom, leaving, givingWay}
 use Rattle.scheduler.specs.Placed.{Sized, Placed, LinkedOnly}
-use Rattle.scheduler.specs.declared.Jobs.{Jobs}
-use Rattle.scheduler.specs.declared.Processors.{Processors}
+use Rattle.processors.specs.declared.Jobs.{Jobs}
+use Rattle.processors.specs.declared.Processors.{Processors}
 use Rattle.scheduler.proofs.Finds.{run-here}
 use Rattle.scheduler.proofs.Moves.{Put, put-place, put-link, put-at}
 

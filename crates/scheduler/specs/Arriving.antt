@@ -5,10 +5,10 @@ use lib.Dec.{ltb}
 use Rattle.search.specs.Words.{if_then_else_, _is_}
 use Rattle.search.specs.First.{first}
 use Rattle.search.specs.Best.{best}
-use Rattle.scheduler.specs.Limits.{processors, nobody, preemptable}
-use Rattle.scheduler.specs.Words.{rankOf, modeOf, link, runs, isHigher, placeOn, linkOn}
-use Rattle.scheduler.specs.declared.Jobs.{Jobs}
-use Rattle.scheduler.specs.declared.Processors.{Processors}
+use Rattle.processors.specs.Limits.{processors, nobody, preemptable}
+use Rattle.processors.specs.Words.{rankOf, modeOf, link, runs, isHigher, placeOn, linkOn}
+use Rattle.processors.specs.declared.Jobs.{Jobs}
+use Rattle.processors.specs.declared.Processors.{Processors}
 
 abbrev pub isUsed : Processors → ℕ → Bool
 isUsed p k = ltb k (p .count)

@@ -2,11 +2,11 @@
 use Prim.Native.Nat.{ℕ, _<_, _≤_}
 use mathlib.Core.Path.{_≡_}
 use mathlib.Core.Logic.{_≢_, _⊎_}
-use Rattle.scheduler.specs.Limits.{processors, tasks, nobody, preemptable, nonPreemptable}
-use Rattle.scheduler.specs.Words.{link, rankOf, modeOf}
+use Rattle.processors.specs.Limits.{processors, tasks, nobody, preemptable, nonPreemptable}
+use Rattle.processors.specs.Words.{link, rankOf, modeOf}
 use Rattle.scheduler.specs.Placed.{Runnable}
-use Rattle.scheduler.specs.declared.Jobs.{Jobs}
-use Rattle.scheduler.specs.declared.Processors.{Processors}
+use Rattle.processors.specs.declared.Jobs.{Jobs}
+use Rattle.processors.specs.declared.Processors.{Processors}
 
 -- the ranks of runnable jobs are distinct
 abbrev pub Apart : Jobs → Type 0

@@ -4,10 +4,10 @@ use mathlib.Core.Bool.{Bool, _&&_}
 use lib.Dec.{ltb}
 use Rattle.search.specs.Words.{if_then_else_}
 use Rattle.search.specs.Best.{best}
-use Rattle.scheduler.specs.Limits.{processors, tasks, nobody}
-use Rattle.scheduler.specs.Words.{link, runOf, isHigher, isUnlinked, isAwaited, placeOn, linkOn}
-use Rattle.scheduler.specs.declared.Jobs.{Jobs}
-use Rattle.scheduler.specs.declared.Processors.{Processors}
+use Rattle.processors.specs.Limits.{processors, tasks, nobody}
+use Rattle.processors.specs.Words.{link, runOf, isHigher, isUnlinked, isAwaited, placeOn, linkOn}
+use Rattle.processors.specs.declared.Jobs.{Jobs}
+use Rattle.processors.specs.declared.Processors.{Processors}
 
 -- If processor k is linked to another job than the one on it, that one runs instead; else `other`.
 abbrev pub awaitedElse : Processors → ℕ → Processors → Processors

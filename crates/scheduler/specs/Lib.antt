@@ -1,7 +1,4 @@
-pub mod Limits
-pub mod Words
 pub mod Arriving
 pub mod Leaving
 pub mod Placed
-pub mod PlacedTest
 pub mod Changes

@@ -3,10 +3,10 @@ use Prim.Native.Nat.{ℕ, _<_, _≤_}
 use mathlib.Core.Path.{_≡_}
 use mathlib.Core.Logic.{_≢_}
 use lib.ListN.{length}
-use Rattle.scheduler.specs.Limits.{processors, tasks, nobody, preemptable, nonPreemptable}
-use Rattle.scheduler.specs.Words.{link, runs, rankOf, modeOf}
-use Rattle.scheduler.specs.declared.Jobs.{Jobs}
-use Rattle.scheduler.specs.declared.Processors.{Processors}
+use Rattle.processors.specs.Limits.{processors, tasks, nobody, preemptable, nonPreemptable}
+use Rattle.processors.specs.Words.{link, runs, rankOf, modeOf}
+use Rattle.processors.specs.declared.Jobs.{Jobs}
+use Rattle.processors.specs.declared.Processors.{Processors}
 
 pub record Runnable (j : Jobs) (t : ℕ) : Type 0 where
   pub task : t < tasks

@@ -1,21 +1,20 @@
 // Arrive or resume.
-use crate::Jobs;
-use crate::Processors;
-use crate::changing::link_on;
-use crate::changing::place_on;
-use crate::finding::is_higher;
-use crate::finding::is_preemptable;
-use crate::finding::link_at;
-use crate::finding::runs_at;
-
+use processors::Jobs;
+use processors::Processors;
+use processors::link_on;
+use processors::place_on;
+use processors::is_higher;
+use processors::mode_of;
+use processors::link_at;
+use processors::runs_at;
 ghost use mathlib.Core.Path.{_≡_};
 ghost use Prim.Native.Nat.{_<_};
 ghost use mathlib.Core.Bool.{_&&_};
 ghost use lib.Dec.{ltb};
 ghost use Rattle.search.specs.First.{bit, mask};
 ghost use Rattle.search.specs.Best.{better};
-ghost use Rattle.scheduler.specs.Limits.{processors};
-ghost use Rattle.scheduler.specs.Words.{link, isHigher};
+ghost use Rattle.processors.specs.Limits.{processors};
+ghost use Rattle.processors.specs.Words.{link, isHigher};
 ghost use Rattle.scheduler.specs.Arriving.{isUsed, isFree, linksLower, lowestLinked, isPreempted, displacing, arriving};
 
 fn is_free(p: Processors, k: usize) -> bool
@@ -73,7 +72,7 @@ fn is_preempted(p: Processors, jobs: Jobs, k: usize) -> bool
     ensures { λ r. ⌜ r ≡ isPreempted p jobs k ⌝ }
 {
     let t = link_at(p, k);
-    (runs_at(p, k) == t) & is_preemptable(jobs, t)
+    (runs_at(p, k) == t) & (mode_of(jobs, t) == Jobs::PREEMPTABLE)
 }
 
 // The comer `t` takes the link of processor `k` if it is higher than the job linked there.

@@ -1,20 +1,26 @@
 // Becoming preemptable; finish or suspend; giving way at the end of a long request.
-use crate::Jobs;
-use crate::Processors;
-use crate::changing::link_on;
-use crate::changing::place_on;
-use crate::finding::is_awaited;
-use crate::finding::is_higher;
-use crate::finding::is_unlinked;
-use crate::finding::link_at;
-use crate::finding::run_of;
-
+use processors::Jobs;
+use processors::Processors;
+use processors::link_on;
+use processors::place_on;
+use processors::is_higher;
+use processors::is_unlinked;
+use processors::link_at;
+use processors::run_of;
+use processors::runs_at;
 ghost use mathlib.Core.Path.{_≡_};
-ghost use Prim.Native.Nat.{_<_};
 ghost use Rattle.search.specs.Best.{better};
-ghost use Rattle.scheduler.specs.Limits.{processors, tasks};
-ghost use Rattle.scheduler.specs.Words.{isUnlinked, isHigher};
+ghost use Rattle.processors.specs.Limits.{tasks};
+ghost use Rattle.processors.specs.Words.{isUnlinked, isHigher, isAwaited};
 ghost use Rattle.scheduler.specs.Leaving.{becomingPreemptable, nextTask, filling, refilling, leavingFrom, leaving, givingWay};
+
+// Processor `k` is linked to a job that it does not run.
+fn is_awaited(p: Processors, k: usize) -> bool
+    ensures { λ r. ⌜ r ≡ isAwaited p k ⌝ }
+{
+    let t = link_at(p, k);
+    (t != Processors::NOBODY) & (t != runs_at(p, k))
+}
 
 // A job that became preemptable where it runs lets the job run that its processor is linked to.
 pub fn become_preemptable(p: Processors, t: u8) -> Processors
@@ -60,7 +66,6 @@ fn next_task(p: Processors, jobs: Jobs) -> u8
 
 // `u` is linked to `k` and runs there; or, where it runs on `q`, to `q`, whose link moves to `k`.
 fn fill(p: Processors, k: usize, u: u8, q: usize) -> Processors
-    requires { ⌜ k < processors ⌝ }
     ensures { λ r. ⌜ r ≡ filling p k u q ⌝ }
 {
     if q < Processors::LIMIT {
@@ -72,15 +77,17 @@ fn fill(p: Processors, k: usize, u: u8, q: usize) -> Processors
 }
 
 fn refill(p: Processors, jobs: Jobs, k: usize) -> Processors
-    requires { ⌜ k < processors ⌝ }
     ensures { λ r. ⌜ r ≡ refilling p jobs k ⌝ }
 {
     let u = next_task(p, jobs);
-    if u < Jobs::END { fill(p, k, u, run_of(p, u)) } else { p }
+    if u < Jobs::END {
+        fill(p, k, u, run_of(p, u))
+    } else {
+        p
+    }
 }
 
 fn leave_from(p: Processors, jobs: Jobs, k: usize) -> Processors
-    requires { ⌜ k < processors ⌝ }
     ensures { λ r. ⌜ r ≡ leavingFrom p jobs k ⌝ }
 {
     if is_awaited(p, k) {
@@ -95,7 +102,11 @@ pub fn leave(p: Processors, jobs: Jobs, t: u8) -> Processors
     ensures { λ r. ⌜ r ≡ leaving p jobs t ⌝ }
 {
     let k = run_of(p, t);
-    if k < Processors::LIMIT { leave_from(p, jobs, k) } else { p }
+    if k < Processors::LIMIT {
+        leave_from(p, jobs, k)
+    } else {
+        p
+    }
 }
 
 // The priority of `t` is restored, and `jobs` has it so: a higher job may take its processor.
@@ -104,7 +115,11 @@ pub fn give_way(p: Processors, jobs: Jobs, t: u8) -> Processors
 {
     let u = next_task(p, jobs);
     if u < Jobs::END {
-        if is_higher(jobs, u, t) { leave(p, jobs, t) } else { p }
+        if is_higher(jobs, u, t) {
+            leave(p, jobs, t)
+        } else {
+            p
+        }
     } else {
         p
     }

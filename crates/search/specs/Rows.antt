@@ -6,7 +6,6 @@ use Rattle.search.specs.Words.{if_then_else_, _isn't_}
 
 infix 28 _when_
 infixr 20 _otherwise_
-
 abbrev pub Row : Type 0
 Row = ℕ × Bool
 

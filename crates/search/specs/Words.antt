@@ -7,7 +7,6 @@ infixr 4 if_then_else_
 infix 40 _is_
 infix 40 _isn't_
 infixr 25 _implies_
-
 abbrev pub if_then_else_ {ℓ} : {A : Type ℓ} → Bool → A → A → A
 if b then x else y = cond b x y
 

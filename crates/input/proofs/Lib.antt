@@ -1,0 +1,5 @@
+pub mod Lists
+pub mod Accepted
+pub mod Names
+pub mod Cleared
+pub mod Sizes

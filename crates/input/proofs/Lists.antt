@@ -1,0 +1,27 @@
+-- Facts of lists. Assumes nothing.
+use Prim.Native.Nat.{ℕ, zero, suc, _<_}
+use mathlib.Core.Path.{_≡_, refl, _∙_}
+use mathlib.Core.List.{List, [], _∷_, map}
+use native.Mathlib.Nat.{not-suc-le-zero, le-of-suc-le-suc}
+use lib.Dec.{ltb}
+use lib.ListN.{length, getD, length-map, List·getD-map}
+use Rattle.search.specs.Words.{if_then_else_}
+use Rattle.search.specs.Table.{table}
+use Rattle.search.proofs.Tables.{table-of}
+
+-- within a list the default does not matter
+pub getD-any {ℓ} : {A : Type ℓ} (l : List A) (k : ℕ) (a b : A) → k < length l → getD l k a ≡ getD l k b
+getD-any [] k a b h = absurd (not-suc-le-zero h)
+getD-any (x ∷ l) zero a b h = refl
+getD-any (x ∷ l) (suc k) a b h = getD-any l k a b (le-of-suc-le-suc h)
+
+-- a list mapped, at a place and by its places
+pub getD-map {ℓ} : {A : Type ℓ} (f : A → A) (l : List A) (k : ℕ) (d : A) → k < length l → getD (map f l) k d ≡ f (getD l k d)
+getD-map f l k d h = getD-any (map f l) k d (f d) (rw length-map h) ∙ List·getD-map f l k d
+
+pub map-table {ℓ} : {A : Type ℓ} (f : A → A) (l : List A) (d : A) → map f l ≡ table (λ i. f (getD l i d)) (length l)
+map-table f l d = table-of (λ i. f (getD l i d)) (map f l) (length l) (f d) (length-map l f) (λ i h. List·getD-map f l i d)
+
+-- place i of a list that is cleared from n on
+abbrev pub keptBelow : ℕ → List ℕ → ℕ → ℕ
+keptBelow n l i = if ltb i n then getD l i 0 else 0

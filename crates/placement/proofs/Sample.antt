@@ -1,0 +1,49 @@
+-- `Placed` is not empty: two processors, task 0 runs linked on processor 0; task 1 runs non-preemptably on processor 1, whose link
+-- the higher task 2 has; task 3 is ready. Task 2 is linked but not running. Assumes nothing.
+use Prim.Native.Nat.{ℕ, _≤_}
+use native.Mathlib.Nat.{le-refl}
+use native.Mathlib.Omega.{arith}
+use mathlib.Core.Path.{_≡_, refl}
+use mathlib.Core.List.{List, [], _∷_, _++_}
+use lib.ListN.{replicate}
+use mathlib.Core.Bool.{true}
+use Rattle.search.specs.Below.{allBelow}
+use Rattle.search.specs.First.{first}
+use Rattle.processors.specs.Limits.{nobody}
+use Rattle.processors.specs.Words.{noJob, rankOf, modeOf, linkOf, runOf}
+use Rattle.scheduler.specs.Placed.{Placed, LinkedOnly}
+use Rattle.placement.specs.PlacedTest.{linkHolds, runHolds, processorHolds, linksHigher, taskHolds, isPlaced}
+use Rattle.processors.specs.declared.Mode.the-variants.{Preemptable, NonPreemptable}
+use Rattle.processors.specs.declared.Jobs.{Jobs}
+use Rattle.processors.specs.declared.Processors.{Processors}
+use Rattle.scheduler.proofs.Finds.{run-nowhere}
+use Rattle.placement.proofs.Testing.{placed-of-test}
+
+pub sample : Processors
+sample = record { count = 2; linked = 0 ∷ 2 ∷ replicate 6 nobody; running = 0 ∷ 1 ∷ replicate 6 nobody }
+
+pub sampleJobs : Jobs
+sampleJobs = record {
+  of =
+      record { rank = 100; mode = Preemptable }
+      ∷ record { rank = 300; mode = NonPreemptable }
+      ∷ record { rank = 200; mode = Preemptable }
+      ∷ record { rank = 400; mode = Preemptable }
+      ∷ replicate 28 noJob;
+}
+
+sample-test : isPlaced sample sampleJobs ≡ true
+unfolding sample sampleJobs isPlaced processorHolds linkHolds runHolds taskHolds linksHigher linkOf runOf rankOf modeOf first allBelow
+sample-test = refl
+
+pub sample-placed : Placed sample sampleJobs
+unfolding sample
+sample-placed = placed-of-test sample sampleJobs (record { links = refl; runnings = refl }) sample-test
+
+nowhere : 8 ≤ runOf sample 2
+unfolding sample runOf first
+nowhere = le-refl 8
+
+pub sample-waits : LinkedOnly sample 2
+unfolding sample
+sample-waits = record { task = omega arith; linked = (1, refl); waits = run-nowhere sample 2 (sample-placed .settled .sized) (λ e. omega arith) nowhere }

@@ -1,0 +1,69 @@
+-- What the rules of links and placements speak of.
+use Prim.Native.Nat.{ℕ}
+use mathlib.Core.Bool.{Bool, _&&_}
+use lib.Dec.{leb, ltb}
+use lib.ListN.{getD, set, replicate}
+use Rattle.search.specs.Words.{_is_, _isn't_}
+use Rattle.search.specs.First.{first}
+use Rattle.processors.specs.Limits.{processors, tasks, nobody, preemptable, number}
+use Rattle.processors.specs.declared.Mode.the-variants.{Off}
+use Rattle.processors.specs.declared.Job.{Job}
+use Rattle.processors.specs.declared.Jobs.{Jobs}
+use Rattle.processors.specs.declared.Processors.{Processors}
+
+-- ---- jobs
+abbrev pub noJob : Job
+noJob = record { rank = 0; mode = Off }
+
+unfoldable pub rankOf : Jobs → ℕ → ℕ
+rankOf j t = getD (j .of) t noJob .rank
+
+unfoldable pub modeOf : Jobs → ℕ → ℕ
+modeOf j t = number (getD (j .of) t noJob .mode)
+
+abbrev pub isRunnable : Jobs → ℕ → Bool
+isRunnable j t = leb preemptable (modeOf j t)
+
+-- a has a higher priority than b
+abbrev pub isHigher : Jobs → ℕ → ℕ → Bool
+isHigher j a b = ltb (rankOf j a) (rankOf j b)
+
+-- a is runnable and has a higher priority than t
+abbrev pub isAhead : Jobs → ℕ → ℕ → Bool
+isAhead j t a = isRunnable j a && isHigher j a t
+
+-- ---- processors
+-- the task that processor k is linked to, and the task that it runs, or nobody
+abbrev pub link : Processors → ℕ → ℕ
+link p k = getD (p .linked) k nobody
+
+abbrev pub runs : Processors → ℕ → ℕ
+runs p k = getD (p .running) k nobody
+
+-- the processor that is linked to t, and the one that runs t; `processors` for none
+unfoldable pub linkOf : Processors → ℕ → ℕ
+linkOf p t = first (λ k. link p k is t) 0 processors
+
+unfoldable pub runOf : Processors → ℕ → ℕ
+runOf p t = first (λ k. runs p k is t) 0 processors
+
+-- t is runnable and no processor is linked to it
+abbrev pub isUnlinked : Processors → Jobs → ℕ → Bool
+isUnlinked p j t = isRunnable j t && leb processors (linkOf p t)
+
+-- processor k is linked to a job that it does not run
+abbrev pub isAwaited : Processors → ℕ → Bool
+isAwaited p k = link p k isn't nobody && link p k isn't runs p k
+
+-- ---- one processor changed
+-- k is linked to t and runs it; t may be nobody
+abbrev pub placeOn : Processors → ℕ → ℕ → Processors
+placeOn p k t = record { count = p .count; linked = set (p .linked) k t; running = set (p .running) k t }
+
+-- k is linked to t, and runs what it ran
+abbrev pub linkOn : Processors → ℕ → ℕ → Processors
+linkOn p k t = record { count = p .count; linked = set (p .linked) k t; running = p .running }
+
+-- none of `count` processors has a link, and none runs a job
+unfoldable pub noneLinked : ℕ → Processors
+noneLinked count = record { count = count; linked = replicate processors nobody; running = replicate processors nobody }

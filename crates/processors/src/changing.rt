@@ -1,0 +1,40 @@
+// One processor changed.
+use crate::Processors;
+ghost use mathlib.Core.Path.{_≡_};
+ghost use Prim.Native.Nat.{_<_};
+ghost use Rattle.processors.specs.Limits.{processors};
+ghost use Rattle.processors.specs.Words.{placeOn, linkOn, noneLinked};
+
+// Nobody is linked to any of `count` processors, and nobody runs.
+pub fn none_linked(count: usize) -> Processors
+    ensures { λ r. ⌜ r ≡ noneLinked count ⌝ }
+{
+    Processors {
+        count,
+        linked: [Processors::NOBODY; Processors::LIMIT],
+        running: [Processors::NOBODY; Processors::LIMIT],
+    }
+}
+
+// `k` is linked to `t` and runs it.
+pub fn place_on(p: Processors, k: usize, t: u8) -> Processors
+    ensures { λ r. ⌜ r ≡ placeOn p k t ⌝ }
+{
+    let mut next = p;
+    if k < Processors::LIMIT {
+        next.linked[k] = t;
+        next.running[k] = t;
+    }
+    next
+}
+
+// `k` is linked to `t`, and runs what it ran.
+pub fn link_on(p: Processors, k: usize, t: u8) -> Processors
+    ensures { λ r. ⌜ r ≡ linkOn p k t ⌝ }
+{
+    let mut next = p;
+    if k < Processors::LIMIT {
+        next.linked[k] = t;
+    }
+    next
+}

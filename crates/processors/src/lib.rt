@@ -1,0 +1,45 @@
+// Who is linked and who runs: the processors, and what is told of each task's job.
+mod changing;
+mod finding;
+
+pub use changing::{link_on, none_linked, place_on};
+pub use finding::{is_higher, is_unlinked, link_at, link_of, mode_of, run_of, runs_at};
+
+// Each processor's linked task and the task on it; nobody from `count` on.
+pub struct Processors {
+    pub count: usize,
+    pub linked: [u8; Processors::LIMIT],
+    pub running: [u8; Processors::LIMIT],
+}
+
+impl Processors {
+    pub const LIMIT: usize = 8;
+    // No task; what an empty place holds.
+    pub const NOBODY: u8 = 255;
+}
+
+// Whether a task has a runnable job, and which kind. A suspended job is off.
+pub enum Mode {
+    Off,
+    Preemptable,
+    NonPreemptable,
+}
+
+// What the scheduler is told of a task's job. A lower rank is a higher priority.
+pub struct Job {
+    pub rank: u64,
+    pub mode: Mode,
+}
+
+pub struct Jobs {
+    pub of: [Job; Jobs::LIMIT],
+}
+
+impl Jobs {
+    pub const LIMIT: usize = 32;
+    // Past the last task; a search that finds no task answers so.
+    pub const END: u8 = Jobs::LIMIT as u8;
+    // The numbers of the modes that tests ask for.
+    pub const PREEMPTABLE: u8 = 1;
+    pub const NON_PREEMPTABLE: u8 = 2;
+}
