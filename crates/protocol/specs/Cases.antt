@@ -1,0 +1,171 @@
+-- Document 01's twelve cases to be proved, P1 to P12: one table under one statement, computed with the rules. A step is
+-- refused with 9 where the state is not sound, so the sound test runs at every step.
+use Prim.Native.Nat.{ℕ, _-_}
+use mathlib.Core.Bool.{Bool, true, false, _&&_}
+use mathlib.Core.List.{List, [], _∷_, _++_, map}
+use mathlib.Core.Path.{_≡_, refl}
+use lib.ListN.{length, take, replicate}
+use Rattle.search.specs.Words.{_is_}
+use Rattle.search.specs.Below.{allBelow, anyBelow}
+use Rattle.search.specs.First.{first}
+use Rattle.search.specs.Best.{best, better}
+use Rattle.search.specs.Table.{table}
+use Rattle.queue.specs.Waiting.{waiting, waiter as queued, empty, appended, movedUp, withoutFirst, placeOf, isClear as tidyAt, isTidy}
+use Rattle.processors.specs.Words.{rankOf, modeOf, linkOf, runOf, noneLinked}
+use Rattle.scheduler.specs.Arriving.{lowestFree, lowestLinked, displacing, arrivingOn, arriving as linking}
+use Rattle.scheduler.specs.Leaving.{becomingPreemptable, nextTask, filling, refilling, leavingFrom, leaving, givingWay}
+use Rattle.placement.specs.PlacedTest.{linkHolds, runHolds, processorHolds, linksHigher, taskHolds, isPlaced}
+use Rattle.input.specs.Limits.{mostTasks, mostResources, mostPairs}
+use Rattle.input.specs.Refusals.{setUpRows, setUpRefusal}
+use Rattle.input.specs.Naming.{joinedBy, namesAfter, names, groupOf}
+use Rattle.input.specs.Clearing.{below, cleared, emptyFrom, isClear}
+use Rattle.input.specs.Kinds.{fieldsOf}
+use Rattle.input.specs.declared.SetUp.{SetUp}
+use Rattle.input.specs.declared.Event.{Event}
+use Rattle.protocol.specs.Words.{nobody, task, stand, asked, deadline, depth, request, holder, len, waiter}
+use Rattle.protocol.specs.Ranks.{own, leastOf, longHeld, effective, shortOpen, jobs}
+use Rattle.protocol.specs.Situations.{situation}
+use Rattle.protocol.specs.Sound.{clockSound, timesSound, requestsSound, waitingSound, groupSound, emptySound, sound}
+use Rattle.protocol.specs.Refusals.{misplaced, eventRows, judge}
+use Rattle.protocol.specs.Locks.{openOfKind, opens, queues, closes, frees, calls, passes}
+use Rattle.protocol.specs.Events.{arrives, leaves, softens, givesWay, arriveEvent, finishEvent, requestEvent, completeEvent, charged, act, step, fresh, begin}
+use Rattle.protocol.specs.declared.State.{State}
+use Rattle.protocol.specs.declared.Reply.{Reply}
+
+-- an event, its answer, and per processor who is linked and who runs
+record Line : Type 0 where
+  event : Event
+  answer : ℕ
+  linked : List ℕ
+  running : List ℕ
+
+-- a set-up, the names of its resources' groups, the events, and each task's five totals at the end
+record Case : Type 0 where
+  setup : SetUp
+  groups : List ℕ
+  lines : List Line
+  totals : List (List ℕ)
+
+abbrev same : List ℕ → List ℕ → Bool
+same [] [] = true
+same [] (y ∷ ys) = false
+same (x ∷ xs) [] = false
+same (x ∷ xs) (y ∷ ys) = x is y && same xs ys
+
+abbrev sames : List (List ℕ) → List (List ℕ) → Bool
+sames [] [] = true
+sames [] (y ∷ ys) = false
+sames (x ∷ xs) [] = false
+sames (x ∷ xs) (y ∷ ys) = same x y && sames xs ys
+
+abbrev all : (Case → Bool) → List Case → Bool
+all ok [] = true
+all ok (x ∷ xs) = ok x && all ok xs
+
+-- each line comes out as written, and at the end the totals do
+abbrev follows : List Line → List (List ℕ) → State → Bool
+follows [] totals s = sames (map (λ t. task s t .totals) (table (λ t. t) (s .setup .tasks))) totals
+follows (l ∷ ls) totals s =
+    let r = step s (l .event) in
+    let n = s .processors .count in
+    r .answer is l .answer && same (take n (r .state .processors .linked)) (l .linked)
+    && same (take n (r .state .processors .running)) (l .running) && follows ls totals (r .state)
+
+abbrev holds : Case → Bool
+holds c =
+    let r = begin (c .setup) in
+    r .answer is 0 && same (map (groupOf (c .setup)) (table (λ i. i) (c .setup .resources))) (c .groups) && follows (c .lines) (c .totals) (r .state)
+
+-- ---- how a case is written
+abbrev filled : ℕ → List ℕ → List ℕ
+filled n xs = xs ++ replicate (n - length xs) 0
+
+-- processors, start, periods, kinds, and the pairs' outer and inner resources
+abbrev given : ℕ → ℕ → List ℕ → List ℕ → List ℕ → List ℕ → SetUp
+given m start periods kinds outer inner = record {
+  processors = m;
+  tasks = length periods;
+  resources = length kinds;
+  pairs = length outer;
+  start = start;
+  periods = filled mostTasks periods;
+  kinds = filled mostResources kinds;
+  outer = filled mostPairs outer;
+  inner = filled mostPairs inner;
+}
+
+-- kind, task, resource, tick
+abbrev pub event : ℕ → ℕ → ℕ → ℕ → Event
+event k t r tick = record { kind = k; task = t; resource = r; tick = tick }
+
+abbrev line : ℕ → ℕ → ℕ → ℕ → ℕ → List ℕ → List ℕ → Line
+line k t r tick a l n = record { event = event k t r tick; answer = a; linked = l; running = n }
+
+abbrev two : ℕ → ℕ → List ℕ
+two a b = a ∷ b ∷ []
+
+abbrev one : ℕ → List ℕ
+one a = a ∷ []
+
+abbrev pub printed : SetUp
+printed = given 2 65530 (100 ∷ 200 ∷ 50 ∷ []) (one 0) [] []
+
+abbrev cases : List Case
+cases =
+    -- P1 to P8: the printed case
+    record {
+      setup = printed;
+      groups = one 0;
+      lines =
+          line 1 0 0 65530 0 (two 0 nobody) (two 0 nobody)
+          ∷ line 1 1 0 65532 0 (two 0 1) (two 0 1)
+          ∷ line 3 1 0 65535 0 (two 0 1) (two 0 1)
+          ∷ line 1 2 0 2 0 (two 0 2) (two 0 1)
+          ∷ line 3 0 0 4 0 (two 0 2) (two 0 1)
+          ∷ line 4 1 0 9 0 (two 0 2) (two 0 2)
+          ∷ line 2 1 0 9 19 (two 0 2) (two 0 2)
+          ∷ line 2 2 0 12 0 (two 0 1) (two 0 1)
+          ∷ [];
+      totals = (13 ∷ 5 ∷ 0 ∷ 0 ∷ 0 ∷ []) ∷ (13 ∷ 0 ∷ 0 ∷ 3 ∷ 0 ∷ []) ∷ (3 ∷ 0 ∷ 7 ∷ 0 ∷ 0 ∷ []) ∷ [];
+    }
+    -- P9: after step 4, task 0 finishes at tick 4
+    ∷ record {
+      setup = printed;
+      groups = one 0;
+      lines =
+          line 1 0 0 65530 0 (two 0 nobody) (two 0 nobody)
+          ∷ line 1 1 0 65532 0 (two 0 1) (two 0 1)
+          ∷ line 3 1 0 65535 0 (two 0 1) (two 0 1)
+          ∷ line 1 2 0 2 0 (two 0 2) (two 0 1)
+          ∷ line 2 0 0 4 0 (two 2 1) (two 2 1)
+          ∷ [];
+      totals = (10 ∷ 0 ∷ 0 ∷ 0 ∷ 0 ∷ []) ∷ (8 ∷ 0 ∷ 0 ∷ 0 ∷ 0 ∷ []) ∷ (0 ∷ 0 ∷ 2 ∷ 0 ∷ 0 ∷ []) ∷ [];
+    }
+    -- P10: one processor and a long resource; the holder inherits
+    ∷ record {
+      setup = given 1 0 (300 ∷ 100 ∷ 200 ∷ []) (one 1) [] [];
+      groups = one 0;
+      lines =
+          line 1 0 0 0 0 (one 0) (one 0)
+          ∷ line 3 0 0 0 0 (one 0) (one 0)
+          ∷ line 1 1 0 10 0 (one 1) (one 1)
+          ∷ line 3 1 0 10 0 (one 0) (one 0)
+          ∷ line 1 2 0 20 0 (one 0) (one 0)
+          ∷ line 4 0 0 20 0 (one 1) (one 1)
+          ∷ [];
+      totals = (20 ∷ 0 ∷ 0 ∷ 0 ∷ 0 ∷ []) ∷ (0 ∷ 0 ∷ 0 ∷ 0 ∷ 10 ∷ []) ∷ (0 ∷ 0 ∷ 0 ∷ 0 ∷ 0 ∷ []) ∷ [];
+    }
+    -- P11: step 32,767 is accepted, 32,768 is not
+    ∷ record {
+      setup = given 1 0 (one 1) [] [] [];
+      groups = [];
+      lines = line 5 0 0 32768 14 (one nobody) (one nobody) ∷ line 5 0 0 32767 0 (one nobody) (one nobody) ∷ line 5 0 0 65535 14 (one nobody) (one nobody) ∷ [];
+      totals = replicate 5 0 ∷ [];
+    }
+    -- P12: pairs (2,1) and (1,0), all short: one group, named 0
+    ∷ record { setup = given 1 0 (one 1) (0 ∷ 0 ∷ 0 ∷ []) (two 2 1) (two 1 0); groups = 0 ∷ 0 ∷ 0 ∷ []; lines = []; totals = replicate 5 0 ∷ [] }
+    ∷ []
+
+pub cases-hold : all holds cases ≡ true
+unfolding allBelow anyBelow first best better table waiting queued empty appended movedUp withoutFirst placeOf tidyAt isTidy rankOf modeOf linkOf runOf noneLinked lowestFree lowestLinked displacing arrivingOn linking becomingPreemptable nextTask filling refilling leavingFrom leaving givingWay linkHolds runHolds processorHolds linksHigher taskHolds isPlaced setUpRows setUpRefusal joinedBy namesAfter names groupOf below cleared emptyFrom isClear fieldsOf stand asked deadline depth request holder len waiter own leastOf longHeld effective shortOpen jobs situation clockSound timesSound requestsSound waitingSound groupSound emptySound sound misplaced eventRows judge openOfKind opens queues closes frees calls passes arrives leaves softens givesWay arriveEvent finishEvent requestEvent completeEvent charged act step fresh begin
+cases-hold = refl

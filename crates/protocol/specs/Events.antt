@@ -1,0 +1,120 @@
+-- Document 01, 'Events' and 'Tick totals': what an accepted event does. c is the set-up of s.
+use Prim.Native.Nat.{ℕ, _+_}
+use mathlib.Core.Bool.{Bool, _||_}
+use mathlib.Core.List.{List, [], _∷_}
+use lib.ListN.{getD, set, replicate}
+use Rattle.search.specs.Words.{if_then_else_, _is_, _isn't_}
+use Rattle.search.specs.Table.{table}
+use Rattle.processors.specs.Words.{noneLinked}
+use Rattle.processors.specs.declared.Processors.{Processors}
+use Rattle.scheduler.specs.Arriving.{arriving as linking}
+use Rattle.scheduler.specs.Leaving.{becomingPreemptable, leaving, givingWay}
+use Rattle.input.specs.Limits.{mostTasks, mostResources, short}
+use Rattle.input.specs.Words.{period, kind}
+use Rattle.input.specs.Refusals.{setUpRefusal}
+use Rattle.input.specs.Naming.{groupOf}
+use Rattle.input.specs.Clearing.{cleared}
+use Rattle.input.specs.Kinds.{arrival, finish, request as asking, completion}
+use Rattle.input.specs.declared.SetUp.{SetUp}
+use Rattle.input.specs.declared.Event.{Event}
+use Rattle.protocol.specs.Words.{nobody, absent, noTask, noGroup, task, stand, holder, len}
+use Rattle.protocol.specs.Ranks.{jobs}
+use Rattle.protocol.specs.Situations.{situation, totalOf}
+use Rattle.protocol.specs.Refusals.{stepOf, judge}
+use Rattle.protocol.specs.Locks.{arriving, departing, onTask, openOfKind, opens, queues, closes, frees, nextAt, passes}
+use Rattle.protocol.specs.declared.Task.{Task}
+use Rattle.protocol.specs.declared.State.{State}
+use Rattle.protocol.specs.declared.Reply.{Reply}
+
+-- ---- the scheduler's moves, told the jobs of s
+abbrev pub withProcessors : Processors → State → State
+withProcessors p s = record { setup = s .setup; clock = s .clock; tasks = s .tasks; groups = s .groups; processors = p }
+
+module _ (c : SetUp) (t : ℕ) (s : State) where
+  -- t arrives or resumes; finishes or suspends; becomes preemptable; gives way
+  unfoldable pub arrives : State
+  arrives = withProcessors (linking (s .processors) (jobs c s) t) s
+
+  unfoldable pub leaves : State
+  leaves = withProcessors (leaving (s .processors) (jobs c s) t) s
+
+  unfoldable pub softens : State
+  softens = withProcessors (becomingPreemptable (s .processors) t) s
+
+  unfoldable pub givesWay : State
+  givesWay = withProcessors (givingWay (s .processors) (jobs c s) t) s
+
+module _ (c : SetUp) (t : ℕ) where
+  -- Arrival: the deadline is arrival plus period.
+  unfoldable pub arriveEvent : State → State
+  arriveEvent s = arrives c t (onTask t (arriving (s .clock) (s .clock + period c t)) s)
+
+  unfoldable pub finishEvent : State → State
+  finishEvent s = leaves c t (onTask t departing s)
+
+  -- Request. Same kind open, or the group free: granted at once. Otherwise a short request spins at the queue's end, and a
+  -- long one joins the queue, which raises the holder's priority, then suspends.
+  unfoldable pub requestEvent : ℕ → State → State
+  requestEvent r s =
+      let g = groupOf c r in
+      if openOfKind c s t r || holder s g is nobody then opens t r g s
+      else if kind c r is short then queues c t r g s
+      else leaves c t (queues c t r g s)
+
+  -- Completion. Inner: the request is closed, no more. Outermost short: the queue's first job becomes holder, then the
+  -- completer becomes preemptable. Outermost long: the completer's priority is restored, as the group is free, and it gives
+  -- way; then the queue's first job becomes holder and resumes.
+  unfoldable pub completeEvent : ℕ → State → State
+  completeEvent r s =
+      let g = groupOf c r in
+      let closed = closes t s in
+      let freed = frees g closed in
+      if openOfKind c closed t r then closed
+      else if kind c r is short then softens c t (if len s g is 0 then freed else passes g freed)
+      else if len s g is 0 then givesWay c t freed
+      else arrives c (nextAt s g) (passes g (givesWay c t freed))
+
+-- Tick totals: each pending task's ticks go to the total of its situation before the event.
+abbrev pub counting : ℕ → ℕ → Task → Task
+counting i n t = record { standing = t .standing; deadline = t .deadline; arrived = t .arrived; last = t .last; requests = t .requests; depth = t .depth; totals = set (t .totals) i (getD (t .totals) i 0 + n) }
+
+unfoldable pub charged : ℕ → State → State
+charged n s = record {
+  setup = s .setup;
+  clock = s .clock + n;
+  tasks = table (λ t. if stand s t isn't absent then counting (totalOf (situation s t)) n (task s t) else task s t) mostTasks;
+  groups = s .groups;
+  processors = s .processors;
+}
+
+-- an accepted event, on the state charged with its ticks
+unfoldable pub act : SetUp → Event → State → State
+act c e s =
+    if e .kind is arrival then arriveEvent c (e .task) s
+    else if e .kind is finish then finishEvent c (e .task) s
+    else if e .kind is asking then requestEvent c (e .task) (e .resource) s
+    else if e .kind is completion then completeEvent c (e .task) (e .resource) s
+    else s
+
+-- A refused event hands back the same state.
+unfoldable pub step : State → Event → Reply
+step s e =
+    if judge s e is 0 then record { answer = 0; state = act (s .setup) e (charged (stepOf s e) s) }
+    else record { answer = judge s e; state = s }
+
+-- the state after a list of events
+unfoldable pub run : State → List Event → State
+run s [] = s
+run s (e ∷ es) = run (step s e .state) es
+
+-- ---- what a set-up gives: nobody has arrived; a refused one gives an empty state
+abbrev pub noSetUp : SetUp
+noSetUp = record { processors = 0; tasks = 0; resources = 0; pairs = 0; start = 0; periods = replicate mostTasks 0; kinds = replicate mostResources 0; outer = replicate 64 0; inner = replicate 64 0 }
+
+unfoldable pub fresh : SetUp → State
+fresh c = record { setup = c; clock = c .start; tasks = replicate mostTasks noTask; groups = replicate mostResources noGroup; processors = noneLinked (c .processors) }
+
+unfoldable pub begin : SetUp → Reply
+begin c =
+    if setUpRefusal c is 0 then record { answer = 0; state = fresh (cleared c) }
+    else record { answer = setUpRefusal c; state = fresh noSetUp }

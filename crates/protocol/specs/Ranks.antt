@@ -1,0 +1,52 @@
+-- Document 01, 'Events': priorities, and what the scheduler is told of each job. A lower rank is a higher priority.
+-- Here and below c is the set-up of the state s.
+use Prim.Native.Nat.{ℕ, zero, suc, _+_, _*_, min}
+use mathlib.Core.Bool.{Bool, true, false, _&&_}
+use Rattle.search.specs.Words.{_is_}
+use Rattle.search.specs.Below.{anyBelow}
+use Rattle.search.specs.First.{first}
+use Rattle.search.specs.Table.{table}
+use Rattle.processors.specs.declared.Mode.{Mode}
+use Rattle.processors.specs.declared.Mode.the-variants.{Off, Preemptable, NonPreemptable}
+use Rattle.processors.specs.declared.Jobs.{Jobs}
+use Rattle.input.specs.Limits.{mostTasks, short, long}
+use Rattle.input.specs.Words.{kind}
+use Rattle.input.specs.declared.SetUp.{SetUp}
+use Rattle.protocol.specs.Words.{task, deadline, depth, request, holder, len, waiter}
+use Rattle.protocol.specs.declared.Lock.the-variants.{Short, Long}
+use Rattle.protocol.specs.declared.Standing.{Standing}
+use Rattle.protocol.specs.declared.Standing.the-variants.{Absent, Active, Waiting}
+use Rattle.protocol.specs.declared.State.{State}
+
+-- Own priority: earlier deadline is higher, then lower task number, which is below 256.
+unfoldable pub own : State → ℕ → ℕ
+own s t = deadline s t * 256 + t
+
+-- the least of a and of f below n
+unfoldable pub leastOf : (ℕ → ℕ) → ℕ → ℕ → ℕ
+leastOf f zero a = a
+leastOf f (suc n) a = min (f n) (leastOf f n a)
+
+module _ (c : SetUp) (s : State) where
+  -- the long group that t holds, or the number past the last resource
+  unfoldable pub longHeld : ℕ → ℕ
+  longHeld t = first (λ g. kind c g is long && holder s g is t) 0 (c .resources)
+
+  -- Effective priority: for the holder of a long group the highest among its own and those of the jobs queued there.
+  unfoldable pub effective : ℕ → ℕ
+  effective t = leastOf (λ i. own s (waiter s (longHeld t) i)) (len s (longHeld t)) (own s t)
+
+  -- t has a short request open
+  unfoldable pub shortOpen : ℕ → Bool
+  shortOpen t = anyBelow (depth s t) (λ i. kind c (request s t i) is short)
+
+  -- suspended on a long group, preemptable, or non-preemptable as holder or spinner of a short group
+  abbrev pub modeFor : Standing → Bool → Mode
+  modeFor Absent holds = Off
+  modeFor Active true = NonPreemptable
+  modeFor Active false = Preemptable
+  modeFor (Waiting (Short r)) holds = NonPreemptable
+  modeFor (Waiting (Long r)) holds = Off
+
+  unfoldable pub jobs : Jobs
+  jobs = record { of = table (λ t. record { rank = effective t; mode = modeFor (task s t .standing) (shortOpen t) }) mostTasks }

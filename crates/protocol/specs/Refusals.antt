@@ -1,0 +1,68 @@
+-- Document 01, 'The clock' and 'Numbers handed back': the clock step, and the refusals 9 to 25 in the list's order.
+use Prim.Native.Nat.{ℕ, _+_, _-_, _%_}
+use mathlib.Core.Bool.{Bool, not, _&&_, _||_}
+use mathlib.Core.List.{List, []}
+use lib.Dec.{leb, ltb}
+use Rattle.search.specs.Words.{_is_, _isn't_}
+use Rattle.search.specs.Below.{anyBelow}
+use Rattle.search.specs.Rows.{Row, _when_, _otherwise_, firstOf}
+use Rattle.input.specs.Limits.{short, long}
+use Rattle.input.specs.Words.{period, kind}
+use Rattle.input.specs.Refusals.{within}
+use Rattle.input.specs.Naming.{groupOf}
+use Rattle.input.specs.Kinds.{arrival, finish, request as asking, completion, passing, fieldsOf}
+use Rattle.input.specs.declared.SetUp.{SetUp}
+use Rattle.input.specs.declared.Event.{Event}
+use Rattle.protocol.specs.Words.{mostRequests, lastClock, absent, task, stand, depth, request}
+use Rattle.protocol.specs.Situations.{situation, hindrance}
+use Rattle.protocol.specs.Sound.{sound}
+use Rattle.protocol.specs.declared.State.{State}
+
+-- the console's tick runs from 65,535 to 0
+abbrev pub ticks : ℕ
+ticks = 65536
+
+-- the new tick minus the last accepted one, modulo 65,536; and the exact clock after it
+abbrev pub stepOf : State → Event → ℕ
+stepOf s e = (e .tick + ticks - s .clock % ticks) % ticks
+
+abbrev pub now : State → Event → ℕ
+now s e = s .clock + stepOf s e
+
+module _ (c : SetUp) (s : State) (t r : ℕ) where
+  -- long while a short is open, or same kind open in another group
+  unfoldable pub misplaced : Bool
+  misplaced = anyBelow (depth s t) (λ i.
+      (kind c r is long && kind c (request s t i) is short)
+      || (kind c (request s t i) is kind c r && groupOf c (request s t i) isn't groupOf c r))
+
+unfoldable pub eventRows : State → Event → List Row
+eventRows s e =
+    let c = s .setup in
+    let t = e .task in
+    let r = e .resource in
+    let uses = fieldsOf (e .kind) in
+    let acts = within finish (e .kind) completion in
+    let hinders = hindrance (situation s t) in
+    9 when not (sound s) otherwise
+    10 when not (within arrival (e .kind) passing) otherwise
+    11 when uses .task && leb (c .tasks) t otherwise
+    12 when uses .resource && leb (c .resources) r otherwise
+    13 when (not (uses .task) && t isn't 0) || (not (uses .resource) && r isn't 0) otherwise
+    14 when leb 32768 (stepOf s e) otherwise
+    15 when ltb lastClock (now s e) otherwise
+    16 when e .kind is arrival && stand s t isn't absent otherwise
+    17 when e .kind is arrival && task s t .arrived && ltb (now s e) (task s t .last + period c t) otherwise
+    18 when acts && hinders is 18 otherwise
+    19 when acts && hinders is 19 otherwise
+    20 when acts && hinders is 20 otherwise
+    21 when e .kind is finish && depth s t isn't 0 otherwise
+    22 when e .kind is asking && anyBelow (depth s t) (λ i. request s t i is r) otherwise
+    23 when e .kind is asking && misplaced c s t r otherwise
+    24 when e .kind is asking && depth s t is mostRequests otherwise
+    25 when e .kind is completion && (depth s t is 0 || request s t (depth s t - 1) isn't r) otherwise
+    []
+
+-- the first refusal that applies, or 0
+unfoldable pub judge : State → Event → ℕ
+judge s e = firstOf (eventRows s e)

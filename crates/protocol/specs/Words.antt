@@ -1,0 +1,95 @@
+-- Words over a state: what a standing says, the parts of a state, and the empty records.
+use Prim.Native.Nat.{ℕ, _+_}
+use mathlib.Core.Bool.{Bool, false}
+use mathlib.Core.List.{List, [], _∷_}
+use lib.ListN.{getD, replicate}
+use Rattle.queue.specs.Waiting.{waiter as queued, empty}
+use Rattle.protocol.specs.declared.Lock.the-variants.{Short, Long}
+use Rattle.protocol.specs.declared.Standing.{Standing}
+use Rattle.protocol.specs.declared.Standing.the-variants.{Absent, Active, Waiting}
+use Rattle.protocol.specs.declared.Task.{Task}
+use Rattle.protocol.specs.declared.Group.{Group}
+use Rattle.protocol.specs.declared.State.{State}
+
+-- `Task::REQUESTS` and `Task::TOTALS`; no task and no resource; the end of the exact clock
+abbrev pub mostRequests : ℕ
+mostRequests = 8
+
+abbrev pub totalCount : ℕ
+totalCount = 5
+
+abbrev pub nobody : ℕ
+nobody = 255
+
+abbrev pub lastClock : ℕ
+lastClock = 4294967295
+
+abbrev pub sum : List ℕ → ℕ
+sum [] = 0
+sum (x ∷ xs) = x + sum xs
+
+-- ---- a standing as a number: no job, active, spinning on a short group, suspended on a long one
+abbrev pub absent : ℕ
+absent = 0
+
+abbrev pub active : ℕ
+active = 1
+
+abbrev pub spinning : ℕ
+spinning = 2
+
+abbrev pub suspended : ℕ
+suspended = 3
+
+abbrev pub standingNo : Standing → ℕ
+standingNo Absent = absent
+standingNo Active = active
+standingNo (Waiting (Short r)) = spinning
+standingNo (Waiting (Long r)) = suspended
+
+-- the resource that a waiting job asked for, or nothing
+abbrev pub askedOf : Standing → ℕ
+askedOf Absent = nobody
+askedOf Active = nobody
+askedOf (Waiting (Short r)) = r
+askedOf (Waiting (Long r)) = r
+
+-- ---- the empty records
+abbrev pub noTask : Task
+noTask = record { standing = Absent; deadline = 0; arrived = false; last = 0; requests = replicate mostRequests nobody; depth = 0; totals = replicate totalCount 0 }
+
+abbrev pub noGroup : Group
+noGroup = record { holder = nobody; queue = empty }
+
+-- ---- the parts of a state
+abbrev pub task : State → ℕ → Task
+task s t = getD (s .tasks) t noTask
+
+abbrev pub group : State → ℕ → Group
+group s g = getD (s .groups) g noGroup
+
+unfoldable pub stand : State → ℕ → ℕ
+stand s t = standingNo (task s t .standing)
+
+unfoldable pub asked : State → ℕ → ℕ
+asked s t = askedOf (task s t .standing)
+
+unfoldable pub deadline : State → ℕ → ℕ
+deadline s t = task s t .deadline
+
+-- how many requests t has open, and which, oldest first
+unfoldable pub depth : State → ℕ → ℕ
+depth s t = task s t .depth
+
+unfoldable pub request : State → ℕ → ℕ → ℕ
+request s t i = getD (task s t .requests) i nobody
+
+-- the holder of group g, how many wait there, and who, first come first
+unfoldable pub holder : State → ℕ → ℕ
+holder s g = group s g .holder
+
+unfoldable pub len : State → ℕ → ℕ
+len s g = group s g .queue .len
+
+unfoldable pub waiter : State → ℕ → ℕ → ℕ
+waiter s g i = queued (group s g .queue) i

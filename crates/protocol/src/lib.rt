@@ -1,0 +1,66 @@
+// The state of a session: tasks, groups and processors. The rules over it are in specs/.
+use input::SetUp;
+use processors::Processors;
+use queue::Queue;
+
+// A lock's kind, with the resource asked for.
+pub enum Lock {
+    Short(u8),
+    Long(u8),
+}
+
+// A task has no job, one that goes its way, or one that waits.
+pub enum Standing {
+    Absent,
+    Active,
+    Waiting(Lock),
+}
+
+// What a task's job is doing.
+pub enum Situation {
+    NoJob,
+    Running,
+    Spinning,
+    LinkedOnly,
+    Ready,
+    Suspended,
+}
+
+// `last` is the clock of the last arrival, if the task has `arrived` at all. The open requests are the
+// first `depth`, oldest first.
+pub struct Task {
+    pub standing: Standing,
+    pub deadline: u64,
+    pub arrived: bool,
+    pub last: u32,
+    pub requests: [u8; Task::REQUESTS],
+    pub depth: usize,
+    pub totals: [u32; Task::TOTALS],
+}
+
+impl Task {
+    // How many requests a job may have open.
+    pub const REQUESTS: usize = 8;
+    // Running, spinning, linked but not running, ready, suspended.
+    pub const TOTALS: usize = 5;
+}
+
+// A group's place is that of its lowest resource.
+pub struct Group {
+    pub holder: u8,
+    pub queue: Queue,
+}
+
+pub struct State {
+    pub setup: SetUp,
+    pub clock: u32,
+    pub tasks: [Task; SetUp::TASKS],
+    pub groups: [Group; SetUp::RESOURCES],
+    pub processors: Processors,
+}
+
+// A number handed back, and the state after.
+pub struct Reply {
+    pub answer: u8,
+    pub state: State,
+}
