@@ -11,7 +11,7 @@ use Rattle.search.specs.First.{first}
 use Rattle.search.specs.Best.{best, better}
 use Rattle.search.specs.Table.{table}
 use Rattle.queue.specs.Waiting.{waiting, waiter as queued, empty, appended, movedUp, withoutFirst, placeOf, isClear as tidyAt, isTidy}
-use Rattle.processors.specs.Words.{rankOf, modeOf, linkOf, runOf, noneLinked}
+use Rattle.processors.specs.Words.{runs, rankOf, modeOf, linkOf, runOf, noneLinked}
 use Rattle.scheduler.specs.Arriving.{lowestFree, lowestLinked, displacing, arrivingOn, arriving as linking}
 use Rattle.scheduler.specs.Leaving.{becomingPreemptable, nextTask, filling, refilling, leavingFrom, leaving, givingWay}
 use Rattle.placement.specs.PlacedTest.{linkHolds, runHolds, processorHolds, linksHigher, taskHolds, isPlaced}
@@ -169,3 +169,25 @@ cases =
 pub cases-hold : all holds cases ≡ true
 unfolding allBelow anyBelow first best better table waiting queued empty appended movedUp withoutFirst placeOf tidyAt isTidy rankOf modeOf linkOf runOf noneLinked lowestFree lowestLinked displacing arrivingOn linking becomingPreemptable nextTask filling refilling leavingFrom leaving givingWay linkHolds runHolds processorHolds linksHigher taskHolds isPlaced setUpRows setUpRefusal joinedBy namesAfter names groupOf below cleared emptyFrom isClear fieldsOf stand asked deadline depth request holder len waiter own leastOf longHeld effective shortOpen jobs situation clockSound timesSound requestsSound waitingSound groupSound emptySound sound misplaced eventRows judge openOfKind opens queues closes frees calls passes arrives leaves softens givesWay arriveEvent finishEvent requestEvent completeEvent charged act step fresh begin
 cases-hold = refl
+
+-- the first two events of the printed case, and what the rules answer to each
+abbrev pub opening : State
+opening = begin printed .state
+
+abbrev pub event₁ : Event
+event₁ = event 1 0 0 65530
+
+abbrev pub event₂ : Event
+event₂ = event 1 1 0 65532
+
+abbrev pub reply₁ : Reply
+reply₁ = step opening event₁
+
+abbrev pub reply₂ : Reply
+reply₂ = step (reply₁ .state) event₂
+
+-- what tells the replies apart: the first answer, and who runs on a processor
+pub told : (reply₁ .answer ≡ 0) × (runs (opening .processors) 0 ≡ 255) × (runs (reply₁ .state .processors) 0 ≡ 0)
+    × (runs (reply₁ .state .processors) 1 ≡ 255) × (runs (reply₂ .state .processors) 1 ≡ 1)
+unfolding allBelow anyBelow first best better table waiting queued empty appended movedUp withoutFirst placeOf tidyAt isTidy rankOf modeOf linkOf runOf noneLinked lowestFree lowestLinked displacing arrivingOn linking becomingPreemptable nextTask filling refilling leavingFrom leaving givingWay linkHolds runHolds processorHolds linksHigher taskHolds isPlaced setUpRows setUpRefusal joinedBy namesAfter names groupOf below cleared emptyFrom isClear fieldsOf stand asked deadline depth request holder len waiter own leastOf longHeld effective shortOpen jobs situation clockSound timesSound requestsSound waitingSound groupSound emptySound sound misplaced eventRows judge openOfKind opens queues closes frees calls passes arrives leaves softens givesWay arriveEvent finishEvent requestEvent completeEvent charged act step fresh begin
+told = (refl, refl, refl, refl, refl)

@@ -6,3 +6,4 @@ pub mod Refusals
 pub mod Locks
 pub mod Events
 pub mod Cases
+pub mod Impostors

@@ -4,6 +4,7 @@ use mathlib.Core.Bool.{Bool, not, _&&_}
 use lib.Dec.{leb, ltb}
 use Rattle.search.specs.Words.{_is_, _isn't_, _implies_}
 use Rattle.search.specs.Below.{allBelow, anyBelow}
+use Rattle.queue.specs.Limits.{capacity}
 use Rattle.queue.specs.Waiting.{placeOf, isTidy}
 use Rattle.placement.specs.PlacedTest.{isPlaced}
 use Rattle.input.specs.Limits.{mostTasks, mostResources, long}
@@ -48,7 +49,7 @@ module _ (c : SetUp) (s : State) where
       leb spinning (stand s t) implies (
         ltb (asked s t) (c .resources)
         && stand s t is spinning + kind c (asked s t)
-        && ltb (placeOf (group s (groupOf c (asked s t)) .queue) t) (len s (groupOf c (asked s t)))
+        && ltb (placeOf (group s (groupOf c (asked s t)) .queue) t) capacity
         && allBelow (depth s t) (λ i. kind c (request s t i) isn't kind c (asked s t))
         && (stand s t is suspended implies depth s t is 0)
         && ltb (depth s t) mostRequests)

@@ -1,0 +1,46 @@
+-- Document 01, 'How tight the statements are': four impostors, each of which differs from `step` at the step of the printed case
+-- that is named there. An impostor is told the state and the event, and what it answered first.
+use Prim.Native.Nat.{ℕ}
+use mathlib.Core.Path.{ap}
+use mathlib.Core.Logic.{_≢_}
+use native.Mathlib.Omega.{arith}
+use Rattle.search.specs.First.{first}
+use Rattle.processors.specs.Words.{runs}
+use Rattle.input.specs.declared.Event.{Event}
+use Rattle.protocol.specs.Events.{step}
+use Rattle.protocol.specs.declared.State.{State}
+use Rattle.protocol.specs.declared.Reply.{Reply}
+use Rattle.protocol.specs.Cases.{opening, event₁, event₂, reply₁, reply₂, told}
+
+-- refuses everything
+abbrev pub refusing : Reply → State → Event → Reply
+refusing earlier s e = record { answer = 9; state = s }
+
+-- answers as it should, and hands the state back untouched
+abbrev pub idling : Reply → State → Event → Reply
+idling earlier s e = record { answer = step s e .answer; state = s }
+
+-- answers the same always: what it answered first
+abbrev pub repeating : Reply → State → Event → Reply
+repeating earlier s e = earlier
+
+-- handles the first event, and then only claims to
+abbrev pub claiming : Reply → State → Event → Reply
+claiming earlier s e = record { answer = step s e .answer; state = earlier .state }
+
+abbrev on : ℕ → Reply → ℕ
+on k r = runs (r .state .processors) k
+
+-- at step 1
+pub refusing-differs : refusing reply₁ opening event₁ ≢ reply₁
+refusing-differs e = omega (arith, told .0, ap (λ (r : Reply). r .answer) e)
+
+pub idling-differs : idling reply₁ opening event₁ ≢ reply₁
+idling-differs e = omega (arith, told .1, told .2, ap (on 0) e)
+
+-- at step 2
+pub repeating-differs : repeating reply₁ (reply₁ .state) event₂ ≢ reply₂
+repeating-differs e = omega (arith, told .3, told .4, ap (on 1) e)
+
+pub claiming-differs : claiming reply₁ (reply₁ .state) event₂ ≢ reply₂
+claiming-differs e = omega (arith, told .3, told .4, ap (on 1) e)
