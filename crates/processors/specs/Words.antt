@@ -1,6 +1,7 @@
 -- What the rules of links and placements speak of.
 use Prim.Native.Nat.{ℕ}
 use mathlib.Core.Bool.{Bool, _&&_}
+use mathlib.Core.List.{List}
 use lib.Dec.{leb, ltb}
 use lib.ListN.{getD, set, replicate}
 use Rattle.search.specs.Words.{_is_, _isn't_}
@@ -40,12 +41,16 @@ link p k = getD (p .linked) k nobody
 abbrev pub runs : Processors → ℕ → ℕ
 runs p k = getD (p .running) k nobody
 
--- the processor that is linked to t, and the one that runs t; `processors` for none
+-- the first processor with t in a list of the processors' tasks; `processors` for none
+abbrev pub placeOf : List ℕ → ℕ → ℕ
+placeOf l t = first (λ k. getD l k nobody is t) 0 processors
+
+-- the processor that is linked to t, and the one that runs t
 unfoldable pub linkOf : Processors → ℕ → ℕ
-linkOf p t = first (λ k. link p k is t) 0 processors
+linkOf p t = placeOf (p .linked) t
 
 unfoldable pub runOf : Processors → ℕ → ℕ
-runOf p t = first (λ k. runs p k is t) 0 processors
+runOf p t = placeOf (p .running) t
 
 -- t is runnable and no processor is linked to it
 abbrev pub isUnlinked : Processors → Jobs → ℕ → Bool

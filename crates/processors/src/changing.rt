@@ -1,8 +1,6 @@
 // One processor changed.
 use crate::Processors;
 ghost use mathlib.Core.Path.{_≡_};
-ghost use Prim.Native.Nat.{_<_};
-ghost use Rattle.processors.specs.Limits.{processors};
 ghost use Rattle.processors.specs.Words.{placeOn, linkOn, noneLinked};
 
 // Nobody is linked to any of `count` processors, and nobody runs.
@@ -16,18 +14,6 @@ pub fn none_linked(count: usize) -> Processors
     }
 }
 
-// `k` is linked to `t` and runs it.
-pub fn place_on(p: Processors, k: usize, t: u8) -> Processors
-    ensures { λ r. ⌜ r ≡ placeOn p k t ⌝ }
-{
-    let mut next = p;
-    if k < Processors::LIMIT {
-        next.linked[k] = t;
-        next.running[k] = t;
-    }
-    next
-}
-
 // `k` is linked to `t`, and runs what it ran.
 pub fn link_on(p: Processors, k: usize, t: u8) -> Processors
     ensures { λ r. ⌜ r ≡ linkOn p k t ⌝ }
@@ -35,6 +21,17 @@ pub fn link_on(p: Processors, k: usize, t: u8) -> Processors
     let mut next = p;
     if k < Processors::LIMIT {
         next.linked[k] = t;
+    }
+    next
+}
+
+// `k` is linked to `t` and runs it.
+pub fn place_on(p: Processors, k: usize, t: u8) -> Processors
+    ensures { λ r. ⌜ r ≡ placeOn p k t ⌝ }
+{
+    let mut next = link_on(p, k, t);
+    if k < Processors::LIMIT {
+        next.running[k] = t;
     }
     next
 }

@@ -2,8 +2,16 @@
 mod changing;
 mod finding;
 
-pub use changing::{link_on, none_linked, place_on};
-pub use finding::{is_higher, is_unlinked, link_at, link_of, mode_of, run_of, runs_at};
+pub use changing::link_on;
+pub use changing::none_linked;
+pub use changing::place_on;
+pub use finding::is_higher;
+pub use finding::is_unlinked;
+pub use finding::link_at;
+pub use finding::link_of;
+pub use finding::mode_of;
+pub use finding::run_of;
+pub use finding::runs_at;
 
 // Each processor's linked task and the task on it; nobody from `count` on.
 pub struct Processors {
@@ -41,5 +49,6 @@ impl Jobs {
     pub const END: u8 = Jobs::LIMIT as u8;
     // The numbers of the modes that tests ask for.
     pub const PREEMPTABLE: u8 = 1;
+
     pub const NON_PREEMPTABLE: u8 = 2;
 }

@@ -26,8 +26,8 @@ ticks = 65536
 abbrev pub stepOf : State → Event → ℕ
 stepOf s e = (e .tick + ticks - s .clock % ticks) % ticks
 
-abbrev pub now : State → Event → ℕ
-now s e = s .clock + stepOf s e
+abbrev pub clockAfter : State → Event → ℕ
+clockAfter s e = s .clock + stepOf s e
 
 module _ (c : SetUp) (s : State) (t r : ℕ) where
   -- long while a short is open, or same kind open in another group
@@ -50,9 +50,9 @@ eventRows s e =
     12 when uses .resource && leb (c .resources) r otherwise
     13 when (not (uses .task) && t isn't 0) || (not (uses .resource) && r isn't 0) otherwise
     14 when leb 32768 (stepOf s e) otherwise
-    15 when ltb lastClock (now s e) otherwise
+    15 when ltb lastClock (clockAfter s e) otherwise
     16 when e .kind is arrival && stand s t isn't absent otherwise
-    17 when e .kind is arrival && task s t .arrived && ltb (now s e) (task s t .last + period c t) otherwise
+    17 when e .kind is arrival && task s t .arrived && ltb (clockAfter s e) (task s t .last + period c t) otherwise
     18 when acts && hinders is 18 otherwise
     19 when acts && hinders is 19 otherwise
     20 when acts && hinders is 20 otherwise

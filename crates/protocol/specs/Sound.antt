@@ -47,12 +47,12 @@ module _ (c : SetUp) (s : State) where
   unfoldable pub waitingSound : ℕ → Bool
   waitingSound t =
       leb spinning (stand s t) implies (
-        ltb (asked s t) (c .resources)
-        && stand s t is spinning + kind c (asked s t)
-        && ltb (placeOf (group s (groupOf c (asked s t)) .queue) t) capacity
-        && allBelow (depth s t) (λ i. kind c (request s t i) isn't kind c (asked s t))
-        && (stand s t is suspended implies depth s t is 0)
-        && ltb (depth s t) mostRequests)
+      ltb (asked s t) (c .resources)
+      && stand s t is spinning + kind c (asked s t)
+      && ltb (placeOf (group s (groupOf c (asked s t)) .queue) t) capacity
+      && allBelow (depth s t) (λ i. kind c (request s t i) isn't kind c (asked s t))
+      && (stand s t is suspended implies depth s t is 0)
+      && ltb (depth s t) mostRequests)
 
   -- groups have no other holder; queues hold waiting jobs only, who asked there, each once; only held groups have queues
   unfoldable pub groupSound : ℕ → Bool

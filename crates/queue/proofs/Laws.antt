@@ -18,7 +18,8 @@ use Rattle.queue.specs.Limits.{capacity, nobody}
 use Rattle.queue.specs.declared.Queue.{Queue}
 use Rattle.queue.specs.Waiting.{waiting, waiter, empty, appended, movedUp, withoutFirst, placeOf, isClear, isTidy}
 use Rattle.queue.specs.Tidy.{Tidy, Waits, Distinct}
-use Rattle.queue.proofs.Lists.{replicate-at, take-past, snoc-other, moved-at, moved-length, moved-taken}
+use Rattle.search.proofs.Tables.{replicate-at}
+use Rattle.queue.proofs.Lists.{take-past, snoc-other, moved-at, moved-length, moved-taken}
 
 -- ---- the two edits by their cases
 append-some : (q : Queue) (t : ℕ) → q .len < capacity → appended q t ≡ record { tasks = set (q .tasks) (q .len) t; len = q .len + 1 }

@@ -8,18 +8,6 @@ use native.Mathlib.Omega.{arith}
 use lib.ListN.{length, getD, set, take, drop, replicate, length-append, length-take, List·getD-eq-default}
 use lib.Seq.{length-take-le, take-suc, set-at, append-snoc, take-append-le}
 
--- within a list the default does not matter
-pub getD-any {ℓ} : {A : Type ℓ} (l : List A) (k : ℕ) (a b : A) → k < length l → getD l k a ≡ getD l k b
-getD-any [] k a b h = absurd (not-suc-le-zero h)
-getD-any (x ∷ l) zero a b h = refl
-getD-any (x ∷ l) (suc k) a b h = getD-any l k a b (le-of-suc-le-suc h)
-
--- a list of one value, whatever the place
-pub replicate-at {ℓ} : {A : Type ℓ} (n i : ℕ) (d : A) → getD (replicate n d) i d ≡ d
-replicate-at zero i d = refl
-replicate-at (suc n) zero d = refl
-replicate-at (suc n) (suc i) d = replicate-at n i d
-
 -- the first n hold nothing from n on
 pub take-past {ℓ} : {A : Type ℓ} (n : ℕ) (l : List A) (i : ℕ) (d : A) → n ≤ i → getD (take n l) i d ≡ d
 take-past n l i d h = List·getD-eq-default (take n l) d (simp length-take (omega arith))

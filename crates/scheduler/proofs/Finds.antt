@@ -9,12 +9,11 @@ use native.Mathlib.Decide.{decLt}
 use lib.ListN.{length, getD, List·getD-eq-default}
 use borrow.Author.Tests.{lt-ltb, le-leb, ltb-true, ltb-false, leb-true, eqb-true, eqb-false}
 use Rattle.search.specs.Words.{_is_}
-use Rattle.search.specs.First.{first}
 use Rattle.search.proofs.Tests.{and-left, and-right}
 use Rattle.search.proofs.Firsts.{first-law}
 use Rattle.search.proofs.Bests.{Best, best-law}
 use Rattle.processors.specs.Limits.{processors, tasks, nobody}
-use Rattle.processors.specs.Words.{rankOf, link, runs, linkOf, runOf, isRunnable, isHigher, isUnlinked}
+use Rattle.processors.specs.Words.{rankOf, link, runs, placeOf, linkOf, runOf, isRunnable, isHigher, isUnlinked}
 use Rattle.scheduler.specs.Arriving.{isUsed, isFree, lowestFree, linksLower, lowestLinked}
 use Rattle.scheduler.specs.Leaving.{nextTask}
 use Rattle.scheduler.specs.Placed.{Runnable, Sized, Unlinked}
@@ -24,21 +23,18 @@ use Rattle.processors.specs.declared.Processors.{Processors}
 
 -- ---- a task in a list of processors' tasks: where it stands first
 module _ (l : List ℕ) (t : ℕ) where
-  abbrev place : ℕ
-  place = first (λ k. getD l k nobody is t) 0 processors
-
-  here : place < processors → getD l place nobody ≡ t
+  here : placeOf l t < processors → getD l (placeOf l t) nobody ≡ t
   here h = eqb-true _ _ (first-law (λ k. getD l k nobody is t) 0 processors .here h)
 
   module _ (sized : length l ≡ processors) (some : t ≢ nobody) where
-    nowhere : processors ≤ place → (k : ℕ) → getD l k nobody ≢ t
+    nowhere : processors ≤ placeOf l t → (k : ℕ) → getD l k nobody ≢ t
     nowhere h k e = elim (decLt k processors) [
       | yes y ↦ eqb-false _ _ (first-law (λ k. getD l k nobody is t) 0 processors .before k (omega arith) (omega arith)) e
       | no y ↦ some (sym e ∙ List·getD-eq-default l nobody {n = k} (omega arith))
     ]
 
-    somewhere : (k : ℕ) → getD l k nobody ≡ t → place < processors
-    somewhere k e = elim (decLt place processors) [ yes y ↦ y | no y ↦ absurd (nowhere (omega arith) k e) ]
+    somewhere : (k : ℕ) → getD l k nobody ≡ t → placeOf l t < processors
+    somewhere k e = elim (decLt (placeOf l t) processors) [ yes y ↦ y | no y ↦ absurd (nowhere (omega arith) k e) ]
 
 module _ (p : Processors) (t : ℕ) where
   pub link-here : linkOf p t < processors → link p (linkOf p t) ≡ t

@@ -4,11 +4,10 @@ use mathlib.Core.Path.{_≡_, refl, sym, ap, subst, _∙_}
 use mathlib.Core.Bool.{Bool, true, false, _&&_}
 use mathlib.Core.Logic.{_≢_, _⊎_, inl, _↔_}
 use native.Mathlib.Omega.{arith}
-use native.Mathlib.Decide.{decLt}
 use lib.Dec.{ltb}
-use lib.ListN.{getD, replicate, getD-replicate, List·getD-eq-default}
 use Rattle.search.specs.Words.{if_then_else_}
 use Rattle.search.specs.Below.{howMany}
+use Rattle.search.proofs.Tables.{replicate-at}
 use Rattle.processors.specs.Limits.{processors, tasks, nobody, preemptable, nonPreemptable}
 use Rattle.processors.specs.Words.{link, runs, linkOf, runOf, modeOf, isHigher, isAhead, isAwaited, noneLinked, placeOn}
 use Rattle.scheduler.specs.Arriving.{lowestFree, lowestLinked, isPreempted, displacing, arrivingOn, arriving}
@@ -33,28 +32,22 @@ module _ (p : Processors) (Z : Sized p) (t : ℕ) (t-in : t < tasks) where
   running-iff = ((λ h. (runOf p t, run-here p t h)), λ x. run-somewhere p t Z (λ e. omega arith) (x .0) (x .1))
 
 -- ---- nobody linked and nobody runnable
-all-nobody : (k : ℕ) → _≡_ {A = ℕ} (getD (replicate processors nobody) k nobody) nobody
-all-nobody k = elim (decLt k processors) [
-  | yes h ↦ getD-replicate processors k nobody nobody h
-  | no h ↦ List·getD-eq-default (replicate processors nobody) nobody {n = k} (omega arith)
-]
-
 pub none-placed : (count : ℕ) (j : Jobs) → count ≤ processors → ((t : ℕ) → Runnable j t → ⊥) → Placed (noneLinked count) j
 unfolding noneLinked
 none-placed count j h none = record {
   settled = record {
     sized = record { links = refl; runnings = refl };
     fits = h;
-    linked-runnable = λ k d. absurd (d (all-nobody k));
-    linked-once = λ k m d q. absurd (d (all-nobody k));
-    idle = λ k e. all-nobody k;
-    busy = λ k d. absurd (d (all-nobody k));
-    running-runnable = λ k d. absurd (d (all-nobody k));
-    running-once = λ k m d q. absurd (d (all-nobody k));
-    running-linked = λ k m d q. absurd (d (all-nobody k));
-    preemptable-linked = λ k d q. absurd (d (all-nobody k));
+    linked-runnable = λ k d. absurd (d (replicate-at processors k nobody));
+    linked-once = λ k m d q. absurd (d (replicate-at processors k nobody));
+    idle = λ k e. replicate-at processors k nobody;
+    busy = λ k d. absurd (d (replicate-at processors k nobody));
+    running-runnable = λ k d. absurd (d (replicate-at processors k nobody));
+    running-once = λ k m d q. absurd (d (replicate-at processors k nobody));
+    running-linked = λ k m d q. absurd (d (replicate-at processors k nobody));
+    preemptable-linked = λ k d q. absurd (d (replicate-at processors k nobody));
     nonpreemptable-runs = λ t l q. absurd (none t (record { task = l; mode = omega arith }));
-    beyond = λ k l. (all-nobody k, all-nobody k);
+    beyond = λ k l. (replicate-at processors k nobody, replicate-at processors k nobody);
   };
   highest = λ k t l r n. absurd (none t r);
 }

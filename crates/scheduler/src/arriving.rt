@@ -1,11 +1,11 @@
 // Arrive or resume.
 use processors::Jobs;
 use processors::Processors;
-use processors::link_on;
-use processors::place_on;
 use processors::is_higher;
-use processors::mode_of;
 use processors::link_at;
+use processors::link_on;
+use processors::mode_of;
+use processors::place_on;
 use processors::runs_at;
 ghost use mathlib.Core.Path.{_≡_};
 ghost use Prim.Native.Nat.{_<_};

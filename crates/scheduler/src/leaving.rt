@@ -1,11 +1,11 @@
 // Becoming preemptable; finish or suspend; giving way at the end of a long request.
 use processors::Jobs;
 use processors::Processors;
-use processors::link_on;
-use processors::place_on;
 use processors::is_higher;
 use processors::is_unlinked;
 use processors::link_at;
+use processors::link_on;
+use processors::place_on;
 use processors::run_of;
 use processors::runs_at;
 ghost use mathlib.Core.Path.{_≡_};

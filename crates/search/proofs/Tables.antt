@@ -6,9 +6,22 @@ use native.Mathlib.Omega.{arith}
 use native.Mathlib.Decide.{ℕ-discrete}
 use mathlib.Core.Path.{_≡_, refl, sym, ap, _∙_}
 use mathlib.Core.List.{List, [], _∷_, _++_, append-assoc, append-nil}
-use lib.ListN.{length, getD, set, drop, length-append, length-drop, List·getD-append, drop-of-length-le}
+use lib.ListN.{length, getD, set, drop, replicate, length-append, length-drop, List·getD-append, drop-of-length-le}
 use lib.Seq.{getD-at, set-at, drop-cons, ext-getD}
 use Rattle.search.specs.Table.{table}
+
+-- an element that is there is read with any default
+pub getD-any {ℓ} : {A : Type ℓ} (l : List A) (k : ℕ) (a b : A) → k < length l → getD l k a ≡ getD l k b
+getD-any l k a b h =
+    let x = drop-cons l k a h in
+    let y = drop-cons l k b h in
+    cc
+
+-- a list of one value, whatever the place
+pub replicate-at {ℓ} : {A : Type ℓ} (n i : ℕ) (d : A) → getD (replicate n d) i d ≡ d
+replicate-at zero i d = refl
+replicate-at (suc n) zero d = refl
+replicate-at (suc n) (suc i) d = replicate-at n i d
 
 module _ {ℓ} {A : Type ℓ} (f : ℕ → A) where
   pub table-length : (n : ℕ) → length (table f n) ≡ n

@@ -1,28 +1,29 @@
 -- Past the arrays nothing is set. Assumes nothing.
 use Prim.Native.Nat.{_≤_}
+use mathlib.Core.Path.{ap}
 use native.Mathlib.Omega.{arith}
-use lib.ListN.{length, length-map}
+use lib.ListN.{length, set, length-map}
 use lib.Seq.{set-out}
 use borrow.Author.Needs.{needs}
+use Rattle.processors.specs.declared.Processors.{Processors}
 use Rattle.processors.proofs.changing.place_on.Statement.{statement}
 use Rattle.processors.proofs.changing.place_on.Tie as tie
+
+link-on-requires : tie.Need-link-on-requires
+link-on-requires c κs = search needs
 
 element-write-next : tie.Need-element-write-next
 element-write-next c = search needs
 
-element-write-next-2 : tie.Need-element-write-next-2
-element-write-next-2 c = search needs
-
 returns : tie.Need-returns
-returns c = search needs
+returns c = rw (c .before .link-on .ensures)
 
 returns-2 : tie.Need-returns-2
 returns-2 c =
-    let len = simp length-map at (c .before .good) in
-    let a = c .before .args in
-    let links : length (a .p .linked) ≤ a .k = omega arith in
+    let len = simp length-map at (c .before .before .good) in
+    let a = c .before .before .args in
     let runnings : length (a .p .running) ≤ a .k = omega arith in
-    rw (set-out (a .p .linked) (a .k) (a .t) links, set-out (a .p .running) (a .k) (a .t) runnings)
+    rw (c .before .link-on .ensures, set-out (a .p .running) (a .k) (a .t) runnings)
 
 pub place-on-spec : {M : Type 1} → statement M
-place-on-spec = tie.close (tie.spec element-write-next element-write-next-2 returns returns-2)
+place-on-spec = tie.close (tie.spec link-on-requires element-write-next returns returns-2)
