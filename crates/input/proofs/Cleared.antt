@@ -135,7 +135,7 @@ module _ (c : SetUp) where
       let inn = kind-kept (innerOf c i) (s i m l .0 .1) (omega (arith, s i m l)) in
       rw (outer-kept i l m, inner-kept i l m, out, inn))
 
-  -- the refusal is the same, or none as before
+  -- the refusal is as before, 0 too
   pub cleared-refusal : setUpRefusal (cleared c) ≡ setUpRefusal c
   unfolding setUpRefusal setUpRows cleared
   cleared-refusal = rw (periods-same, kinds-same, inside-same)

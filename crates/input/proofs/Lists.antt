@@ -1,19 +1,12 @@
 -- Facts of lists. Assumes nothing.
-use Prim.Native.Nat.{ℕ, zero, suc, _<_}
-use mathlib.Core.Path.{_≡_, refl, _∙_}
-use mathlib.Core.List.{List, [], _∷_, map}
-use native.Mathlib.Nat.{not-suc-le-zero, le-of-suc-le-suc}
+use Prim.Native.Nat.{ℕ, _<_}
+use mathlib.Core.Path.{_≡_, _∙_}
+use mathlib.Core.List.{List, map}
 use lib.Dec.{ltb}
 use lib.ListN.{length, getD, length-map, List·getD-map}
 use Rattle.search.specs.Words.{if_then_else_}
 use Rattle.search.specs.Table.{table}
-use Rattle.search.proofs.Tables.{table-of}
-
--- within a list the default does not matter
-pub getD-any {ℓ} : {A : Type ℓ} (l : List A) (k : ℕ) (a b : A) → k < length l → getD l k a ≡ getD l k b
-getD-any [] k a b h = absurd (not-suc-le-zero h)
-getD-any (x ∷ l) zero a b h = refl
-getD-any (x ∷ l) (suc k) a b h = getD-any l k a b (le-of-suc-le-suc h)
+use Rattle.search.proofs.Tables.{table-of, getD-any}
 
 -- a list mapped, at a place and by its places
 pub getD-map {ℓ} : {A : Type ℓ} (f : A → A) (l : List A) (k : ℕ) (d : A) → k < length l → getD (map f l) k d ≡ f (getD l k d)

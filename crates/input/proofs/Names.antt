@@ -188,15 +188,15 @@ module _ (c : SetUp) where
       lowest = λ q p. rw (equal (wider mostPairs (λ k l m. omega arith) p)) (low mostPairs q (chained-fits h p));
     }
 
-    -- a group is named by a resource of the set-up
+    -- a group's name is a resource of the set-up
     pub group-low : (r : ℕ) → r < c .resources → groupOf c r < c .resources
     group-low r h = omega (arith, names-least r (omega arith) .lowest r alone)
 
-    -- of the kind of all in it
+    -- a group's name is of its kind
     pub group-kind : (r : ℕ) → r < c .resources → kind c (groupOf c r) ≡ kind c r
     group-kind r h = sym (chain-kind (names-least r (omega arith) .member))
 
-    -- which is in the group itself
+    -- a group's name is in the group
     pub group-of-group : (r : ℕ) → r < c .resources → groupOf c (groupOf c r) ≡ groupOf c r
     group-of-group r h =
         let g = names-least r (omega arith) in

@@ -5,5 +5,6 @@ pub mod Sound
 pub mod Refusals
 pub mod Locks
 pub mod Events
+pub mod Demands
 pub mod Cases
 pub mod Impostors

@@ -1,20 +1,22 @@
 -- Under `Placed` a job is linked exactly when it is runnable and fewer runnable jobs than processors are higher. Assumes nothing.
-use Prim.Native.Nat.{ℕ, _<_, _≤_}
+use Prim.Native.Nat.{ℕ, _<_, _≤_, min}
 use mathlib.Core.Path.{_≡_, sym, ap, subst, _∙_}
-use mathlib.Core.Bool.{true}
+use mathlib.Core.Bool.{Bool, true}
 use mathlib.Core.Logic.{_≢_, _↔_}
 use native.Mathlib.Omega.{arith}
 use native.Mathlib.Decide.{decLt}
-use borrow.Author.Tests.{lt-ltb, le-leb, ltb-true, leb-true}
+use borrow.Author.Tests.{lt-ltb, le-leb, ltb-true, leb-true, ne-eqb, eqb-false, not-true}
+use Rattle.search.specs.Words.{_isn't_}
 use Rattle.search.specs.Below.{howMany}
 use Rattle.search.proofs.Tests.{and-left, and-right}
-use Rattle.search.proofs.Pigeons.{count-avoiding, count-from}
+use Rattle.search.proofs.Pigeons.{count-into, count-avoiding, count-onto, count-from}
 use Rattle.processors.specs.Limits.{processors, tasks, nobody}
 use Rattle.processors.specs.Words.{rankOf, link, linkOf, isRunnable, isAhead}
-use Rattle.scheduler.specs.Placed.{Runnable, Placed}
+use Rattle.scheduler.specs.Leaving.{nextTask}
+use Rattle.scheduler.specs.Placed.{Runnable, Settled, Placed}
 use Rattle.processors.specs.declared.Jobs.{Jobs}
 use Rattle.processors.specs.declared.Processors.{Processors}
-use Rattle.scheduler.proofs.Finds.{link-here, link-nowhere, link-somewhere}
+use Rattle.scheduler.proofs.Finds.{link-here, link-nowhere, next-is}
 
 module _ (p : Processors) (j : Jobs) (t : ℕ) (P : Placed p j) where
   counted : (k : ℕ) → link p k ≢ nobody → k < p .count
@@ -56,3 +58,51 @@ module _ (p : Processors) (j : Jobs) (t : ℕ) (P : Placed p j) where
     (λ x. (subst (Runnable j) (x .1) (P .settled .linked-runnable (x .0) (λ z. omega (arith, x .1))), linked-few (x .0) (x .1) h)),
     λ x. (linkOf p t, link-here p t (few-linked (x .0) (x .1))),
   )
+
+-- as many processors are linked as there are, or as there are runnable jobs, if fewer
+module _ (p : Processors) (j : Jobs) (P : Placed p j) where
+  S : Settled p j
+  S = P .settled
+
+  isLinked : ℕ → Bool
+  isLinked k = link p k isn't nobody
+
+  linked-is : (k : ℕ) → isLinked k ≡ true → link p k ≢ nobody
+  unfolding isLinked
+  linked-is k q = eqb-false _ _ (not-true _ q)
+
+  is-linked : (k : ℕ) → link p k ≢ nobody → isLinked k ≡ true
+  unfolding isLinked
+  is-linked k d = rw (ne-eqb _ _ d)
+
+  few : howMany isLinked processors ≤ p .count
+  few = count-into isLinked processors (p .count) (λ k. k) (λ k _ q. counted p j 0 P k (linked-is k q)) (λ i k _ _ _ _ e. e)
+
+  distinct : howMany isLinked processors ≤ howMany (isRunnable j) tasks
+  distinct =
+      count-onto isLinked (isRunnable j) processors tasks (link p)
+      (λ k _ q. let r = S .linked-runnable k (linked-is k q) in (r .task, le-leb _ _ (r .mode))) (λ i k _ _ q _ e. S .linked-once i k (linked-is i q) e)
+
+  -- all runnable jobs are linked
+  all-linked : tasks ≤ nextTask p j → howMany (isRunnable j) tasks ≤ howMany isLinked processors
+  all-linked none =
+      let at : (t : ℕ) → t < tasks → isRunnable j t ≡ true → linkOf p t < processors = λ t l q. elim (decLt (linkOf p t) processors) [
+        | yes y ↦ y
+        | no y ↦ absurd (omega (arith, next-is p j (S .sized) .top t (record { task = l; mode = leb-true _ _ q }) (link-nowhere p t (S .sized) (λ z. omega arith) (omega arith)) .0))
+      ] in
+      count-onto (isRunnable j) isLinked tasks processors (linkOf p)
+      (λ t l q. (at t l q, is-linked _ (λ z. omega (arith, link-here p t (at t l q)))))
+      (λ t u l m q w e. sym (link-here p t (at t l q)) ∙ ap (link p) e ∙ link-here p u (at u m w))
+
+  -- one is not: every processor is linked
+  all-full : nextTask p j < tasks → p .count ≤ howMany isLinked processors
+  all-full some =
+      let o = next-is p j (S .sized) .one some in
+      count-from isLinked processors (p .count) (λ k. k) (λ k l. (omega (arith, S .fits), is-linked k (P .highest k (nextTask p j) l (o .0) (o .1) .0))) (λ i k _ _ e. e)
+
+  pub linked-many : howMany (λ k. link p k isn't nobody) processors ≡ min (p .count) (howMany (isRunnable j) tasks)
+  unfolding isLinked
+  linked-many = elim (decLt (nextTask p j) tasks) [
+    | yes y ↦ omega (arith, few, distinct, all-full y)
+    | no y ↦ omega (arith, few, distinct, all-linked (omega arith))
+  ]

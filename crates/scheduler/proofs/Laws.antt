@@ -1,15 +1,15 @@
 -- The laws of links and placements, as the layers above cite them. Ranks are distinct where a law's change of jobs says so (`Apart`). Assumes nothing.
-use Prim.Native.Nat.{ℕ, suc, _<_, _≤_}
+use Prim.Native.Nat.{ℕ, suc, _<_, _≤_, min}
 use mathlib.Core.Path.{_≡_, refl, sym, ap, subst, _∙_}
 use mathlib.Core.Bool.{Bool, true, false, _&&_}
 use mathlib.Core.Logic.{_≢_, _⊎_, inl, _↔_}
 use native.Mathlib.Omega.{arith}
 use lib.Dec.{ltb}
-use Rattle.search.specs.Words.{if_then_else_}
+use Rattle.search.specs.Words.{if_then_else_, _isn't_}
 use Rattle.search.specs.Below.{howMany}
 use Rattle.search.proofs.Tables.{replicate-at}
 use Rattle.processors.specs.Limits.{processors, tasks, nobody, preemptable, nonPreemptable}
-use Rattle.processors.specs.Words.{link, runs, linkOf, runOf, modeOf, isHigher, isAhead, isAwaited, noneLinked, placeOn}
+use Rattle.processors.specs.Words.{link, runs, linkOf, runOf, modeOf, isRunnable, isHigher, isAhead, isAwaited, noneLinked, placeOn}
 use Rattle.scheduler.specs.Arriving.{lowestFree, lowestLinked, isPreempted, displacing, arrivingOn, arriving}
 use Rattle.scheduler.specs.Leaving.{becomingPreemptable, nextTask, filling, refilling, leavingFrom, leaving, givingWay}
 use Rattle.scheduler.specs.Placed.{Runnable, Sized, Placed, LinkedOnly}
@@ -20,7 +20,7 @@ use Rattle.scheduler.proofs.Finds.{link-here, link-somewhere, run-here,
 use Rattle.scheduler.proofs.Coming.{coming-placed}
 use Rattle.scheduler.proofs.Going.{raised-placed, gives-way-placed}
 use Rattle.scheduler.proofs.Staying.{alike-placed, harden-placed, soften-placed}
-use Rattle.scheduler.proofs.Counting.{linked-counted}
+use Rattle.scheduler.proofs.Counting.{linked-counted, linked-many}
 use Rattle.scheduler.proofs.Waits.{coming-waits, soften-waits, going-waits, gives-way-waits}
 
 -- ---- where a task is
@@ -100,8 +100,12 @@ module _ (p : Processors) (j j′ : Jobs) (P : Placed p j) where
         pub giving-way-law : Lowers j j′ t → Placed (givingWay p j′ t) j′
         giving-way-law L = gives-way-placed p j t P t-in on soft j′ L
 
+-- ---- who is linked, runs, and must
+-- as many processors are linked as there are, or as there are runnable jobs, if fewer
+pub linked-many-law : (p : Processors) (j : Jobs) → Placed p j → howMany (λ k. link p k isn't nobody) processors ≡ min (p .count) (howMany (isRunnable j) tasks)
+linked-many-law p j P = linked-many p j P
+
 module _ (p : Processors) (j : Jobs) (P : Placed p j) (t : ℕ) (t-in : t < tasks) where
-  -- ---- who is linked, runs, and must
   -- linked exactly when runnable with fewer than `count` runnable tasks of lower rank
   pub linked-law : ((k : ℕ) × (link p k ≡ t)) ↔ (Runnable j t × (howMany (isAhead j t) tasks < p .count))
   linked-law = linked-counted p j t P t-in

@@ -70,7 +70,7 @@ pub distinct-few : (m : ℕ) (l : List ℕ) → ((i : ℕ) → i < length l → 
     → ((i k : ℕ) → i < length l → k < length l → getD l i 0 ≡ getD l k 0 → i ≡ k) → length l ≤ m
 distinct-few m l low apart = pigeons m (length l) (λ i. getD l i 0) low apart
 
--- ---- m distinct numbers below n pass: at least m do
+-- ---- how many pass grows with the bound
 howMany-up : (ok : ℕ → Bool) (i n : ℕ) → i ≤ n → howMany ok i ≤ howMany ok n
 unfolding howMany
 howMany-up ok i zero h = rw (let z : i ≡ 0 = omega arith in z) (omega arith)
@@ -82,10 +82,16 @@ howMany-at ok i n h e =
     let u = howMany-up ok (suc i) n h in
     omega (arith, rw e at u)
 
-pub count-from : (ok : ℕ → Bool) (n m : ℕ) (g : ℕ → ℕ) → ((k : ℕ) → k < m → (g k < n) × (ok (g k) ≡ true)) → ((i k : ℕ) → i < m → k < m → g i ≡ g k → i ≡ k) → m ≤ howMany ok n
-count-from ok n m g good apart =
-    pigeons (howMany ok n) m (λ k. howMany ok (g k)) (λ k h. howMany-at ok (g k) n (good k h .0) (good k h .1))
-    (λ i k h l e. apart i k h l (elim (decLt (g i) (g k)) [
-      | yes y ↦ absurd (omega (arith, howMany-at ok (g i) (g k) y (good i h .1)))
-      | no y ↦ elim (decLt (g k) (g i)) [ yes z ↦ absurd (omega (arith, howMany-at ok (g k) (g i) z (good k l .1))) | no z ↦ omega arith ]
+-- those below n that pass one test go to distinct numbers below m that pass another: there are at most as many
+pub count-onto : (ok ok′ : ℕ → Bool) (n m : ℕ) (f : ℕ → ℕ) → ((i : ℕ) → i < n → ok i ≡ true → (f i < m) × (ok′ (f i) ≡ true))
+    → ((i k : ℕ) → i < n → k < n → ok i ≡ true → ok k ≡ true → f i ≡ f k → i ≡ k) → howMany ok n ≤ howMany ok′ m
+count-onto ok ok′ n m f good apart =
+    count-into ok n (howMany ok′ m) (λ i. howMany ok′ (f i)) (λ i h q. howMany-at ok′ (f i) m (good i h q .0) (good i h q .1))
+    (λ i k h l q w e. apart i k h l q w (elim (decLt (f i) (f k)) [
+      | yes y ↦ absurd (omega (arith, howMany-at ok′ (f i) (f k) y (good i h q .1)))
+      | no y ↦ elim (decLt (f k) (f i)) [ yes z ↦ absurd (omega (arith, howMany-at ok′ (f k) (f i) z (good k l w .1))) | no z ↦ omega arith ]
     ]))
+
+-- m distinct numbers below n pass: at least m do
+pub count-from : (ok : ℕ → Bool) (n m : ℕ) (f : ℕ → ℕ) → ((k : ℕ) → k < m → (f k < n) × (ok (f k) ≡ true)) → ((i k : ℕ) → i < m → k < m → f i ≡ f k → i ≡ k) → m ≤ howMany ok n
+count-from ok n m f good apart = omega (arith, all-pass m, count-onto (λ _. true) ok m n f (λ k h _. good k h) (λ i k h l _ _ e. apart i k h l e))

@@ -18,7 +18,7 @@ pairs-below-requires-2 c κs = search needs
 
 returns : tie.Need-returns
 unfolding cleared
-returns c = cc
+returns c = rw (c .pairs-below2 .ensures, c .before .pairs-below .ensures, c .before .before .kinds-below .ensures, c .before .before .before .periods-below .ensures)
 
 pub clear-spec : {M : Type 1} → statement M
 clear-spec =

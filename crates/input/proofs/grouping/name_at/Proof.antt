@@ -2,8 +2,8 @@
 use mathlib.Core.Path.{sym}
 use lib.ListN.{List·getD-eq-default}
 use borrow.Author.Needs.{needs}
+use Rattle.search.proofs.Tables.{getD-any}
 use Rattle.input.specs.Limits.{nothing}
-use Rattle.input.proofs.Lists.{getD-any}
 use Rattle.input.proofs.grouping.name_at.Statement.{statement}
 use Rattle.input.proofs.grouping.name_at.Tie as tie
 

@@ -36,7 +36,18 @@ row-requires-5 c κs = search needs
 
 returns : tie.Need-returns
 unfolding setUpRefusal setUpRows
-returns c = cc
+returns c = rw (
+  c .row5 .ensures,
+  c .before .before .row4 .ensures,
+  c .before .before .before .before .row3 .ensures,
+  c .before .before .before .before .before .before .row2 .ensures,
+  c .before .before .before .before .before .before .before .before .row .ensures,
+  c .before .is-in-limits .ensures,
+  c .before .before .before .has-zero-period .ensures,
+  c .before .before .before .before .before .has-other-kind .ensures,
+  c .before .before .before .before .before .before .before .has-stray-pair .ensures,
+  c .before .before .before .before .before .before .before .before .before .has-long-in-short .ensures,
+)
 
 pub judge-spec : {M : Type 1} → statement M
 judge-spec =

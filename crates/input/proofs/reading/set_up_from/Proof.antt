@@ -45,7 +45,17 @@ side-in-requires-2 c κs = search needs
 
 returns : tie.Need-returns
 unfolding setUpIn
-returns c = cc
+returns c = rw (
+  c .side-in2 .ensures,
+  c .before .side-in .ensures,
+  c .before .before .kinds-in .ensures,
+  c .before .before .before .periods-in .ensures,
+  c .before .before .before .before .start-in .ensures,
+  c .before .before .before .before .before .byte-at4 .ensures,
+  c .before .before .before .before .before .before .byte-at3 .ensures,
+  c .before .before .before .before .before .before .before .byte-at2 .ensures,
+  c .before .before .before .before .before .before .before .before .byte-at .ensures,
+)
 
 pub set-up-from-spec : {M : Type 1} → statement M
 set-up-from-spec =
