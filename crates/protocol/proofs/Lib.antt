@@ -1,1 +1,15 @@
 pub mod Statements
+pub mod Branches
+pub mod Views
+pub mod Carry
+pub mod Edits
+pub mod Blanks
+pub mod Lines
+pub mod Ranks
+pub mod Told
+pub mod Jobs
+pub mod Demands
+pub mod Steps
+pub mod Begin
+pub mod Reflect
+pub mod Dates

@@ -95,9 +95,9 @@ completions s (e ∷ es) g = (if handsOver s e g then 1 else 0) + completions (s
 pub record ShortQueue (s : State) (e : Event) (m : ℕ) : Type 0 where
   pub found : ℕ
   pub few : found < m
-  pub then : (es : List Event) (n : ℕ) → completions (step s e .state) es (groupOf (s .setup) (e .resource)) + n ≡ found
-      → let later = run (step s e .state) es in
-      Before later (groupOf (s .setup) (e .resource)) (e .task) n × (n ≢ 0 → (stand later (e .task) ≡ spinning) × (asked later (e .task) ≡ e .resource))
+  pub later : (es : List Event) (n : ℕ) → completions (step s e .state) es (groupOf (s .setup) (e .resource)) + n ≡ found
+      → let end = run (step s e .state) es in
+      Before end (groupOf (s .setup) (e .resource)) (e .task) n × (n ≢ 0 → (stand end (e .task) ≡ spinning) × (asked end (e .task) ≡ e .resource))
 
 -- ---- totals
 -- the ticks that t has been pending, from its accepted arrivals and finishes and their clocks: since the clock `since`, if it is

@@ -27,6 +27,14 @@ unfoldable pub leastOf : (ℕ → ℕ) → ℕ → ℕ → ℕ
 leastOf f zero a = a
 leastOf f (suc n) a = min (f n) (leastOf f n a)
 
+-- suspended on a long group, preemptable, or non-preemptable as holder or spinner of a short group
+abbrev pub modeFor : Standing → Bool → Mode
+modeFor Absent holds = Off
+modeFor Active true = NonPreemptable
+modeFor Active false = Preemptable
+modeFor (Waiting (Short r)) holds = NonPreemptable
+modeFor (Waiting (Long r)) holds = Off
+
 module _ (c : SetUp) (s : State) where
   -- the long group that t holds, or the number past the last resource
   unfoldable pub longHeld : ℕ → ℕ
@@ -39,14 +47,6 @@ module _ (c : SetUp) (s : State) where
   -- t has a short request open
   unfoldable pub shortOpen : ℕ → Bool
   shortOpen t = anyBelow (depth s t) (λ i. kind c (request s t i) is short)
-
-  -- suspended on a long group, preemptable, or non-preemptable as holder or spinner of a short group
-  abbrev pub modeFor : Standing → Bool → Mode
-  modeFor Absent holds = Off
-  modeFor Active true = NonPreemptable
-  modeFor Active false = Preemptable
-  modeFor (Waiting (Short r)) holds = NonPreemptable
-  modeFor (Waiting (Long r)) holds = Off
 
   unfoldable pub jobs : Jobs
   jobs = record { of = table (λ t. record { rank = effective t; mode = modeFor (task s t .standing) (shortOpen t) }) mostTasks }

@@ -4,19 +4,23 @@ use lib.Dec.{ltb}
 use Rattle.search.specs.Words.{if_then_else_, _is_}
 use Rattle.processors.specs.Limits.{processors}
 use Rattle.processors.specs.Words.{linkOf, runOf}
+use Rattle.processors.specs.declared.Processors.{Processors}
 use Rattle.protocol.specs.Words.{totalCount, absent, spinning, suspended, stand}
 use Rattle.protocol.specs.declared.Situation.{Situation}
 use Rattle.protocol.specs.declared.Situation.the-variants.{NoJob, Running, Spinning, LinkedOnly, Ready, Suspended}
 use Rattle.protocol.specs.declared.State.{State}
 
--- A job on a processor is spinning or running, linked or not.
-unfoldable pub situation : State → ℕ → Situation
-situation s t =
-    if stand s t is absent then NoJob
-    else if stand s t is suspended then Suspended
-    else if ltb (runOf (s .processors) t) processors then (if stand s t is spinning then Spinning else Running)
-    else if ltb (linkOf (s .processors) t) processors then LinkedOnly
+-- of task t with a standing, as a number, among the processors: a job on a processor is spinning or running, linked or not
+abbrev pub situationOf : ℕ → Processors → ℕ → Situation
+situationOf standing p t =
+    if standing is absent then NoJob
+    else if standing is suspended then Suspended
+    else if ltb (runOf p t) processors then (if standing is spinning then Spinning else Running)
+    else if ltb (linkOf p t) processors then LinkedOnly
     else Ready
+
+unfoldable pub situation : State → ℕ → Situation
+situation s t = situationOf (stand s t) (s .processors) t
 
 -- the total of each situation, in the order printed; a task without a job has none
 abbrev pub totalOf : Situation → ℕ

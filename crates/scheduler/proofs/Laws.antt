@@ -24,6 +24,9 @@ use Rattle.scheduler.proofs.Counting.{linked-counted, linked-many}
 use Rattle.scheduler.proofs.Waits.{coming-waits, soften-waits, going-waits, gives-way-waits}
 
 -- ---- where a task is
+pub runs-there : (p : Processors) (t : ℕ) → runOf p t < processors → runs p (runOf p t) ≡ t
+runs-there p t h = run-here p t h
+
 module _ (p : Processors) (Z : Sized p) (t : ℕ) (t-in : t < tasks) where
   pub linked-iff : (linkOf p t < processors) ↔ ((k : ℕ) × (link p k ≡ t))
   linked-iff = ((λ h. (linkOf p t, link-here p t h)), λ x. link-somewhere p t Z (λ e. omega arith) (x .0) (x .1))

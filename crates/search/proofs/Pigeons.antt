@@ -65,6 +65,10 @@ all-pass (suc n) = omega (arith, all-pass n)
 pub pigeons : (m n : ℕ) (f : ℕ → ℕ) → ((i : ℕ) → i < n → f i < m) → ((i k : ℕ) → i < n → k < n → f i ≡ f k → i ≡ k) → n ≤ m
 pigeons m n f low apart = omega (arith, all-pass n, count-into (λ _. true) n m f (λ i h _. low i h) (λ i k h l _ _ e. apart i k h l e))
 
+-- and fewer, where none of them is b
+pub fewer : (n m b : ℕ) (f : ℕ → ℕ) → b < m → ((i : ℕ) → i < n → (f i < m) × (f i ≢ b)) → ((i k : ℕ) → i < n → k < n → f i ≡ f k → i ≡ k) → n < m
+fewer n m b f l low apart = omega (arith, all-pass n, count-avoiding (λ _. true) n m b f l (λ i h _. low i h) (λ i k h g _ _ e. apart i k h g e))
+
 -- the same of a list: distinct numbers below m are at most m
 pub distinct-few : (m : ℕ) (l : List ℕ) → ((i : ℕ) → i < length l → getD l i 0 < m)
     → ((i k : ℕ) → i < length l → k < length l → getD l i 0 ≡ getD l k 0 → i ≡ k) → length l ≤ m

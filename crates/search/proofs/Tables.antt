@@ -6,7 +6,7 @@ use native.Mathlib.Omega.{arith}
 use native.Mathlib.Decide.{ℕ-discrete}
 use mathlib.Core.Path.{_≡_, refl, sym, ap, _∙_}
 use mathlib.Core.List.{List, [], _∷_, _++_, append-assoc, append-nil}
-use lib.ListN.{length, getD, set, drop, replicate, length-append, length-drop, List·getD-append, drop-of-length-le}
+use lib.ListN.{length, getD, set, drop, replicate, length-append, length-drop, List·getD-append, List·getD-eq-default, drop-of-length-le}
 use lib.Seq.{getD-at, set-at, drop-cons, ext-getD}
 use Rattle.search.specs.Table.{table}
 
@@ -36,6 +36,9 @@ module _ {ℓ} {A : Type ℓ} (f : ℕ → A) where
     | yes e ↦ rw e (getD-at (table f n) (f n) [] d n (table-length n))
     | no e ↦ List·getD-append (table f n) (f n ∷ []) d i (omega (arith, table-length n)) ∙ table-at n i d (omega arith)
   ]
+
+  pub table-past : (n i : ℕ) (d : A) → n ≤ i → getD (table f n) i d ≡ d
+  table-past n i d h = List·getD-eq-default (table f n) d (omega (arith, table-length n))
 
   -- a list of n places with f i at each place is the table
   pub table-of : (l : List A) (n : ℕ) (d : A) → length l ≡ n → ((i : ℕ) → i < n → getD l i d ≡ f i) → l ≡ table f n

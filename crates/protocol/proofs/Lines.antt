@@ -1,0 +1,194 @@
+-- Who stands where in a queue: an outermost completion at the group moves each up by one, and nothing else moves any. Assumes nothing.
+use Prim.Native.Nat.{ℕ, suc, _<_}
+use mathlib.Core.Path.{_≡_, refl, ap, _∙_}
+use mathlib.Core.Bool.{true, false}
+use mathlib.Core.Logic.{_≢_}
+use native.Mathlib.Omega.{arith}
+use native.Mathlib.Decide.{decLt}
+use lib.ListN.{length}
+use lib.Seq.{lt-length-set}
+use borrow.Author.Tests.{le-ltb}
+use Rattle.search.proofs.Tests.{never}
+use Rattle.queue.specs.Limits.{capacity}
+use Rattle.queue.specs.Tidy.{Tidy}
+use Rattle.queue.specs.Waiting.{waiter as queued, appended, withoutFirst}
+use Rattle.queue.specs.declared.Queue.{Queue}
+use Rattle.queue.proofs.Laws.{append-len, append-place, without-len, without-place}
+use Rattle.input.specs.Naming.{groupOf}
+use Rattle.input.specs.declared.SetUp.{SetUp}
+use Rattle.protocol.specs.Words.{nobody, group, asked, len, waiter}
+use Rattle.protocol.specs.Locks.{withGroup, openOfKind, opens, queues, closes, frees, nextAt, calls, passes}
+use Rattle.protocol.specs.Events.{arrives, leaves, softens, givesWay, requestEvent, completeEvent}
+use Rattle.protocol.specs.declared.Group.{Group}
+use Rattle.protocol.specs.declared.State.{State}
+use Rattle.protocol.proofs.Carry.{at-one}
+use Rattle.protocol.proofs.Views.{group-at, group-off}
+use Rattle.protocol.proofs.Blanks.{tidy-group}
+use Rattle.protocol.proofs.Branches.{request-by, complete-by}
+
+-- everyone at a keeps the place; moves up by one
+abbrev pub Lines : State → State → ℕ → Type 0
+Lines s s′ a = (i : ℕ) → i < len s a → (i < len s′ a) × (waiter s′ a i ≡ waiter s a i)
+
+abbrev pub Ups : State → State → ℕ → Type 0
+Ups s s′ a = (i : ℕ) → suc i < len s a → (i < len s′ a) × (waiter s′ a i ≡ waiter s a (suc i))
+
+lines-then : (s₁ s₂ s₃ : State) (a : ℕ) → Lines s₁ s₂ a → Lines s₂ s₃ a → Lines s₁ s₃ a
+lines-then s₁ s₂ s₃ a P Q i h = let x = P i h in let y = Q i (x .0) in (y .0, y .1 ∙ x .1)
+
+lines-up : (s₁ s₂ s₃ : State) (a : ℕ) → Lines s₁ s₂ a → Ups s₂ s₃ a → Ups s₁ s₃ a
+lines-up s₁ s₂ s₃ a P Q i h = let x = P (suc i) h in let y = Q i (x .0) in (y .0, y .1 ∙ x .1)
+
+up-lines : (s₁ s₂ s₃ : State) (a : ℕ) → Ups s₁ s₂ a → Lines s₂ s₃ a → Ups s₁ s₃ a
+up-lines s₁ s₂ s₃ a P Q i h = let x = P i h in let y = Q i (x .0) in (y .0, y .1 ∙ x .1)
+
+lines-same : (s s′ : State) (a : ℕ) → group s′ a .queue ≡ group s a .queue → Lines s s′ a
+unfolding len waiter
+lines-same s s′ a e i h = (omega (arith, ap (λ (q : Queue). q .len) e), ap (λ (q : Queue). queued q i) e)
+
+-- a queue with one more at its end, full or not
+append-keeps : (q : Queue) (t i : ℕ) → Tidy q → i < q .len → (i < appended q t .len) × (queued (appended q t) i ≡ queued q i)
+unfolding appended
+append-keeps q t i y l = elim (decLt (q .len) capacity) [
+  | yes h ↦ (omega (arith, append-len q t h), append-place q t i y (λ e. omega arith))
+  | no n ↦ rw (le-ltb (q .len) capacity (omega arith)) (l, refl)
+]
+
+-- ---- the edits of a group
+module _ (s : State) (g : ℕ) (in-groups : g < length (s .groups)) where
+  with-queue : (h : ℕ) (q : Queue) → group (withGroup g h q s) g .queue ≡ q
+  with-queue h q = ap (λ (x : Group). x .queue) (group-at s g h q in-groups)
+
+  -- elsewhere
+  lines-off : (h : ℕ) (q : Queue) (a : ℕ) → a ≢ g → Lines s (withGroup g h q s) a
+  lines-off h q a d = lines-same s (withGroup g h q s) a (ap (λ (x : Group). x .queue) (group-off s g h q a d))
+
+  lines-held : (h a : ℕ) → Lines s (withGroup g h (group s g .queue) s) a
+  lines-held h =
+      let q = group s g .queue in
+      at-one (Lines s (withGroup g h q s)) g (lines-same s (withGroup g h q s) g (with-queue h q)) (lines-off h q)
+
+  opens-lines : (t r a : ℕ) → Lines s (opens t r g s) a
+  unfolding opens len waiter
+  opens-lines t r = lines-held t
+
+  pub frees-lines : (t a : ℕ) → Lines s (frees g (closes t s)) a
+  unfolding frees closes len waiter
+  frees-lines t = lines-held nobody
+
+  module _ (y : Tidy (group s g .queue)) where
+    queues-lines : (c : SetUp) (t r a : ℕ) → Lines s (queues c t r g s) a
+    unfolding queues len waiter
+    queues-lines c t r =
+        let q = group s g .queue in
+        let e = with-queue (group s g .holder) (appended q t) in
+        at-one (Lines s (queues c t r g s)) g
+        (λ i l. let k = append-keeps q t i y l in (omega (arith, k .0, ap (λ (x : Queue). x .len) e), ap (λ (x : Queue). queued x i) e ∙ k .1))
+        (lines-off (group s g .holder) (appended q t))
+
+    calls-ups : Ups s (calls g s) g
+    unfolding calls len waiter
+    calls-ups i l =
+        let q = group s g .queue in
+        let e = with-queue (group s g .holder) (withoutFirst q) in
+        (omega (arith, l, ap (λ (x : Queue). x .len) e, without-len q), ap (λ (x : Queue). queued x i) e ∙ without-place q i y)
+
+  calls-lines : (a : ℕ) → a ≢ g → Lines s (calls g s) a
+  unfolding calls len waiter
+  calls-lines = lines-off (group s g .holder) (withoutFirst (group s g .queue))
+
+  calls-in : g < length (calls g s .groups)
+  unfolding calls
+  calls-in = lt-length-set (s .groups) g _ in-groups
+
+module _ (s : State) (g : ℕ) (in-groups : g < length (s .groups)) where
+  -- the next of g becomes holder
+  passes-then : (a : ℕ) → Lines (calls g s) (passes g s) a
+  unfolding passes
+  passes-then = opens-lines (calls g s) g (calls-in s g in-groups) (nextAt s g) (asked s (nextAt s g))
+
+  passes-ups : Tidy (group s g .queue) → Ups s (passes g s) g
+  passes-ups y = up-lines s (calls g s) (passes g s) g (calls-ups s g in-groups y) (passes-then g)
+
+  passes-lines : (a : ℕ) → a ≢ g → Lines s (passes g s) a
+  passes-lines a d = lines-then s (calls g s) (passes g s) a (calls-lines s g in-groups a d) (passes-then a)
+
+-- ---- the moves of the scheduler
+module _ (c : SetUp) (t : ℕ) (s : State) (a : ℕ) where
+  arrives-lines : Lines s (arrives c t s) a
+  unfolding arrives
+  arrives-lines = lines-same s (arrives c t s) a refl
+
+  leaves-lines : Lines s (leaves c t s) a
+  unfolding leaves
+  leaves-lines = lines-same s (leaves c t s) a refl
+
+  softens-lines : Lines s (softens c t s) a
+  unfolding softens
+  softens-lines = lines-same s (softens c t s) a refl
+
+  gives-lines : Lines s (givesWay c t s) a
+  unfolding givesWay
+  gives-lines = lines-same s (givesWay c t s) a refl
+
+module _ (c : SetUp) (t r : ℕ) (s : State) (h : groupOf c r < length (s .groups)) (tidy : (a : ℕ) → Tidy (group s a .queue)) where
+  abbrev g : ℕ
+  g = groupOf c r
+
+  -- ---- a request moves nobody
+  pub request-lines : (a : ℕ) → Lines s (requestEvent c t r s) a
+  request-lines a =
+      let queue = queues-lines s g h (tidy g) c t r a in
+      request-by c t r s (λ x. Lines s x a) (λ _. opens-lines s g h t r a) (λ _ _ _. queue) (λ _ _ _. lines-then s (queues c t r g s) _ a queue (leaves-lines c t (queues c t r g s) a))
+
+  -- ---- a completion
+  pub inner-lines : openOfKind c (closes t s) t r ≡ true → (a : ℕ) → Lines s (completeEvent c t r s) a
+  unfolding closes
+  inner-lines e a = complete-by c t r s (λ x. Lines s x a) (λ _. lines-same s (closes t s) a refl) (λ n. never n e) (λ n. never n e) (λ n. never n e) (λ n. never n e)
+
+  f : State
+  f = frees g (closes t s)
+
+  f-in : g < length (f .groups)
+  unfolding f frees closes
+  f-in = lt-length-set (s .groups) g _ h
+
+  f-lines : (a : ℕ) → Lines s f a
+  unfolding f
+  f-lines = frees-lines s g h t
+
+  f-tidy : Tidy (group f g .queue)
+  unfolding f frees closes
+  f-tidy = tidy-group (closes t s) g nobody (group s g .queue) h tidy (tidy g) g
+
+  b : State
+  b = givesWay c t f
+
+  b-in : g < length (b .groups)
+  unfolding b givesWay
+  b-in = f-in
+
+  b-lines : (a : ℕ) → Lines s b a
+  unfolding b
+  b-lines a = lines-then s f b a (f-lines a) (gives-lines c t f a)
+
+  b-tidy : Tidy (group b g .queue)
+  unfolding b givesWay
+  b-tidy = f-tidy
+
+  -- outermost: all others stay, and at the group each moves up by one
+  pub outer-lines : openOfKind c (closes t s) t r ≡ false → (a : ℕ) → a ≢ groupOf c r → Lines s (completeEvent c t r s) a
+  unfolding f b
+  outer-lines e a d = complete-by c t r s (λ x. Lines s x a) (never e)
+      (λ _ _ _. lines-then s f _ a (f-lines a) (softens-lines c t f a))
+      (λ _ _ _. lines-then s f _ a (f-lines a) (lines-then f (passes g f) _ a (passes-lines f g f-in a d) (softens-lines c t (passes g f) a)))
+      (λ _ _ _. b-lines a)
+      (λ _ _ _. lines-then s b _ a (b-lines a) (lines-then b (passes g b) _ a (passes-lines b g b-in a d) (arrives-lines c (nextAt s g) (passes g b) a)))
+
+  pub outer-ups : openOfKind c (closes t s) t r ≡ false → Ups s (completeEvent c t r s) (groupOf c r)
+  unfolding f b
+  outer-ups e = complete-by c t r s (λ x. Ups s x g) (never e)
+      (λ _ _ z i l. absurd (omega arith))
+      (λ _ _ _. lines-up s f _ g (f-lines g) (up-lines f (passes g f) _ g (passes-ups f g f-in f-tidy) (softens-lines c t (passes g f) g)))
+      (λ _ _ z i l. absurd (omega arith))
+      (λ _ _ _. lines-up s b _ g (b-lines g) (up-lines b (passes g b) _ g (passes-ups b g b-in b-tidy) (arrives-lines c (nextAt s g) (passes g b) g)))

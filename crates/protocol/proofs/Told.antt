@@ -1,0 +1,151 @@
+-- What the scheduler is told: the mode and the rank of each task's job. Assumes nothing.
+use Prim.Native.Nat.{ℕ, zero, suc, _<_, _≤_}
+use mathlib.Core.Path.{_≡_, refl, sym, ap, _∙_}
+use mathlib.Core.Logic.{_≢_, _⊎_, inl, inr, ⊎-elim, _↔_}
+use mathlib.Core.Bool.{Bool, true, false}
+use native.Mathlib.Omega.{arith}
+use native.Mathlib.Decide.{decLt}
+use lib.ListN.{getD, List·getD-eq-default}
+use Rattle.search.specs.Table.{table}
+use Rattle.search.proofs.Tests.{tests, never}
+use Rattle.search.proofs.Tables.{table-at, table-past}
+use Rattle.processors.specs.Limits.{preemptable, nonPreemptable, number, off}
+use Rattle.processors.specs.Words.{noJob, rankOf, modeOf}
+use Rattle.processors.specs.declared.Job.{Job}
+use Rattle.scheduler.specs.Changes.{Apart}
+use Rattle.input.specs.Limits.{mostTasks, short}
+use Rattle.input.specs.Words.{kind}
+use Rattle.input.specs.declared.SetUp.{SetUp}
+use Rattle.protocol.specs.Words.{absent, active, spinning, suspended, task, stand, depth, request, standingNo}
+use Rattle.protocol.specs.Ranks.{effective, shortOpen, modeFor, jobs}
+use Rattle.protocol.specs.declared.State.{State}
+use Rattle.protocol.specs.declared.Standing.{Standing}
+use Rattle.protocol.specs.declared.Standing.the-variants.{Absent, Active, Waiting}
+use Rattle.protocol.specs.declared.Lock.the-variants.{Short, Long}
+use Rattle.protocol.proofs.Statements.{Grouped, LocksBut, SameTask}
+use Rattle.protocol.proofs.Ranks.{ranks-apart}
+
+-- ---- a short request is open
+module _ (c : SetUp) (s : State) (t : ℕ) where
+  short-iff : (shortOpen c s t ≡ true) ↔ ((i : ℕ) × (i < depth s t) × (kind c (request s t i) ≡ short))
+  unfolding shortOpen
+  short-iff = ((λ h. simp tests at h), λ x. simp tests x)
+
+  pub short-true : (i : ℕ) → i < depth s t → kind c (request s t i) ≡ short → shortOpen c s t ≡ true
+  short-true i h e = short-iff .1 (i, h, e)
+
+  pub short-none : ((i : ℕ) → i < depth s t → kind c (request s t i) ≢ short) → shortOpen c s t ≡ false
+  unfolding shortOpen
+  short-none h = simp tests h
+
+-- whether a short is open turns on the open requests' kinds alone
+pub short-same : (c : SetUp) (s s′ : State) (u : ℕ)
+    → ((i : ℕ) → i < depth s u → kind c (request s u i) ≡ short → (k : ℕ) × (k < depth s′ u) × (kind c (request s′ u k) ≡ short))
+    → ((i : ℕ) → i < depth s′ u → kind c (request s′ u i) ≡ short → (k : ℕ) × (k < depth s u) × (kind c (request s u k) ≡ short))
+    → shortOpen c s′ u ≡ shortOpen c s u
+short-same c s s′ u to from = go (shortOpen c s u) refl
+  where
+    go : (b : Bool) → shortOpen c s u ≡ b → shortOpen c s′ u ≡ shortOpen c s u
+    go true q = let r = short-iff c s u .0 q in short-iff c s′ u .1 (to (r .0) (r .1) (r .2)) ∙ sym q
+    go false q = short-none c s′ u (λ i h z. never q (short-iff c s u .1 (from i h z))) ∙ sym q
+
+-- ---- modes
+pub modeNo : ℕ → Bool → ℕ
+modeNo zero b = off
+modeNo (suc zero) true = nonPreemptable
+modeNo (suc zero) false = preemptable
+modeNo (suc (suc zero)) b = nonPreemptable
+modeNo (suc (suc (suc n))) b = off
+
+mode-number : (x : Standing) (b : Bool) → number (modeFor x b) ≡ modeNo (standingNo x) b
+unfolding modeNo
+mode-number Absent b = refl
+mode-number Active true = refl
+mode-number Active false = refl
+mode-number (Waiting (Short r)) b = refl
+mode-number (Waiting (Long r)) b = refl
+
+mode-on : (n : ℕ) (b : Bool) → preemptable ≤ modeNo n b → (n ≡ active) ⊎ (n ≡ spinning)
+unfolding modeNo
+mode-on zero b h = absurd (omega arith)
+mode-on (suc zero) b h = inl refl
+mode-on (suc (suc zero)) b h = inr refl
+mode-on (suc (suc (suc n))) b h = absurd (omega arith)
+
+module _ (c : SetUp) (s : State) where
+  pub rank-told : (t : ℕ) → t < mostTasks → rankOf (jobs c s) t ≡ effective c s t
+  unfolding rankOf jobs
+  rank-told t h = ap (λ (x : Job). x .rank) (table-at _ mostTasks t noJob h)
+
+  pub rank-out : (t : ℕ) → mostTasks ≤ t → rankOf (jobs c s) t ≡ 0
+  unfolding rankOf jobs
+  rank-out t h = ap (λ (x : Job). x .rank) (table-past _ mostTasks t noJob h)
+
+  pub mode-told : (t : ℕ) → t < mostTasks → modeOf (jobs c s) t ≡ modeNo (stand s t) (shortOpen c s t)
+  unfolding modeOf jobs stand
+  mode-told t h = ap (λ (x : Job). number (x .mode)) (table-at _ mostTasks t noJob h) ∙ mode-number (task s t .standing) (shortOpen c s t)
+
+  pub mode-out : (t : ℕ) → mostTasks ≤ t → modeOf (jobs c s) t ≡ off
+  unfolding modeOf jobs
+  mode-out t h = ap (λ (x : Job). number (x .mode)) (table-past _ mostTasks t noJob h)
+
+  -- what a mode says of the standing, and the standing of the mode
+  pub mode-runs : (t : ℕ) → preemptable ≤ modeOf (jobs c s) t → (t < mostTasks) × ((stand s t ≡ active) ⊎ (stand s t ≡ spinning))
+  mode-runs t h = elim (decLt t mostTasks) [
+    | yes y ↦ (y, mode-on (stand s t) (shortOpen c s t) (omega (arith, mode-told t y)))
+    | no y ↦ absurd (omega (arith, mode-out t (omega arith)))
+  ]
+
+  module _ (t : ℕ) (l : t < mostTasks) where
+    pub mode-soft : stand s t ≡ active → shortOpen c s t ≡ false → modeOf (jobs c s) t ≡ preemptable
+    unfolding modeNo
+    mode-soft e q = mode-told t l ∙ rw (e, q)
+
+    pub mode-hard : stand s t ≡ active → shortOpen c s t ≡ true → modeOf (jobs c s) t ≡ nonPreemptable
+    unfolding modeNo
+    mode-hard e q = mode-told t l ∙ rw (e, q)
+
+    pub mode-active : stand s t ≡ active → preemptable ≤ modeOf (jobs c s) t
+    mode-active e = go (shortOpen c s t) refl
+      where
+        go : (b : Bool) → shortOpen c s t ≡ b → preemptable ≤ modeOf (jobs c s) t
+        go true q = omega (arith, mode-hard e q)
+        go false q = omega (arith, mode-soft e q)
+
+    pub mode-spin : stand s t ≡ spinning → modeOf (jobs c s) t ≡ nonPreemptable
+    unfolding modeNo
+    mode-spin e = mode-told t l ∙ rw e
+
+    pub mode-sleep : stand s t ≡ suspended → modeOf (jobs c s) t ≡ off
+    unfolding modeNo
+    mode-sleep e = mode-told t l ∙ rw e
+
+    pub mode-absent : stand s t ≡ absent → modeOf (jobs c s) t ≡ off
+    unfolding modeNo
+    mode-absent e = mode-told t l ∙ rw e
+
+-- the same standing and the same test give the same mode
+pub mode-same : (c : SetUp) (s s′ : State) (u : ℕ) → stand s′ u ≡ stand s u → shortOpen c s′ u ≡ shortOpen c s u → modeOf (jobs c s′) u ≡ modeOf (jobs c s) u
+mode-same c s s′ u e q = elim (decLt u mostTasks) [
+  | yes y ↦ mode-told c s′ u y ∙ rw (e, q) (sym (mode-told c s u y))
+  | no y ↦ mode-out c s′ u (omega arith) ∙ sym (mode-out c s u (omega arith))
+]
+
+pub mode-kept : (c : SetUp) (s s′ : State) (u : ℕ) → SameTask s s′ u → modeOf (jobs c s′) u ≡ modeOf (jobs c s) u
+mode-kept c s s′ u E = mode-same c s s′ u (E .stood) (short-same c s s′ u
+    (λ i h q. (i, omega (arith, E .deep), rw (E .requested i) q)) (λ i h q. (i, omega (arith, E .deep), rw (E .requested i) at q)))
+
+pub rank-kept : (c : SetUp) (s s′ : State) (u : ℕ) → (u < mostTasks → effective c s′ u ≡ effective c s u) → rankOf (jobs c s′) u ≡ rankOf (jobs c s) u
+rank-kept c s s′ u h = elim (decLt u mostTasks) [
+  | yes y ↦ rank-told c s′ u y ∙ h y ∙ sym (rank-told c s u y)
+  | no y ↦ rank-out c s′ u (omega arith) ∙ sym (rank-out c s u (omega arith))
+]
+
+-- the ranks of runnable jobs are apart
+pub told-apart : (c : SetUp) → Grouped c → (s : State) (x : ℕ) → LocksBut c s x → Apart (jobs c s)
+told-apart c G s x L u v ru rv e =
+    let a = mode-runs c s u (ru .mode) in
+    let b = mode-runs c s v (rv .mode) in
+    ranks-apart c G s x L u v (a .0) (b .0)
+    (λ z. ⊎-elim (λ y. omega arith) (λ y. omega arith) (a .1)) (λ z. ⊎-elim (λ y. omega arith) (λ y. omega arith) (b .1))
+    (sym (rank-told c s u (a .0)) ∙ e ∙ rank-told c s v (b .0))
