@@ -13,3 +13,4 @@ pub mod Steps
 pub mod Begin
 pub mod Reflect
 pub mod Dates
+pub mod Holding

@@ -50,6 +50,10 @@ isRunnable s t = stand s t isn't absent && stand s t isn't suspended
 abbrev pub isAhead : State → ℕ → ℕ → Bool
 isAhead s t u = isRunnable s u && ltb (effective (s .setup) s u) (effective (s .setup) s t)
 
+-- no two runnable jobs have the same priority
+abbrev pub PrioritiesApart : State → Type 0
+PrioritiesApart s = (t u : ℕ) → t < mostTasks → u < mostTasks → isRunnable s t ≡ true → isRunnable s u ≡ true → effective (s .setup) s t ≡ effective (s .setup) s u → t ≡ u
+
 -- the linked jobs are exactly the highest-priority runnable ones, m or all if fewer, each linked once
 pub record LinksHighest (s : State) (m : ℕ) : Type 0 where
   pub highest : (t : ℕ) → t < mostTasks → Linked s t ↔ ((isRunnable s t ≡ true) × (howMany (isAhead s t) mostTasks < m))

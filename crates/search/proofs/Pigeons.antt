@@ -80,6 +80,12 @@ unfolding howMany
 howMany-up ok i zero h = rw (let z : i ≡ 0 = omega arith in z) (omega arith)
 howMany-up ok i (suc n) h = elim (ℕ-discrete i (suc n)) [ yes e ↦ rw e (omega arith) | no d ↦ omega (arith, howMany-up ok i n (omega arith)) ]
 
+-- two tests that agree below n are passed by as many
+pub howMany-same : (ok ok′ : ℕ → Bool) (n : ℕ) → ((i : ℕ) → i < n → ok i ≡ ok′ i) → howMany ok n ≡ howMany ok′ n
+unfolding howMany
+howMany-same ok ok′ zero same = refl
+howMany-same ok ok′ (suc n) same = rw (howMany-same ok ok′ n (λ i h. same i (omega arith)), same n (omega arith))
+
 howMany-at : (ok : ℕ → Bool) (i n : ℕ) → i < n → ok i ≡ true → howMany ok i < howMany ok n
 unfolding howMany
 howMany-at ok i n h e =

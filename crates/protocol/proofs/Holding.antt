@@ -1,0 +1,104 @@
+-- Demand 3, of any sound state. Assumes nothing.
+use Prim.Native.Nat.{ℕ, _<_, _≤_}
+use mathlib.Core.Path.{_≡_, refl, sym, ap, subst, _∙_}
+use mathlib.Core.Bool.{Bool, true, false, _&&_}
+use mathlib.Core.Logic.{_≢_, _⊎_, inl, inr, ⊎-elim, _↔_}
+use native.Mathlib.Omega.{arith}
+use native.Mathlib.Decide.{ℕ-discrete, decLt}
+use lib.Dec.{leb}
+use borrow.Author.Tests.{le-leb, lt-leb, ne-eqb, eq-eqb, leb-true}
+use Rattle.search.specs.Words.{_isn't_}
+use Rattle.search.specs.Below.{howMany}
+use Rattle.search.proofs.Tests.{tests, never}
+use Rattle.search.proofs.Pigeons.{howMany-same}
+use Rattle.processors.specs.Limits.{processors, tasks, nobody, off, preemptable, nonPreemptable}
+use Rattle.processors.specs.Words.{link, rankOf, modeOf, isRunnable as isRunnableJob, isAhead as isAheadJob}
+use Rattle.scheduler.specs.Placed.{Runnable}
+use Rattle.scheduler.proofs.Laws.{linked-law, linked-many-law}
+use Rattle.input.specs.Limits.{mostTasks}
+use Rattle.input.specs.Naming.{groupOf}
+use Rattle.protocol.specs.Words.{absent, active, spinning, suspended, standingNo, task, stand, asked, depth, request, holder}
+use Rattle.protocol.specs.Ranks.{effective, jobs}
+use Rattle.protocol.specs.Demands.{isRunnable, isAhead, PrioritiesApart, LinksHighest, OneHolder, Waiting, WaitsFor, ChainsEnd}
+use Rattle.protocol.specs.declared.Lock.the-variants.{Short, Long}
+use Rattle.protocol.specs.declared.Standing.{Standing}
+use Rattle.protocol.specs.declared.Standing.the-variants.{Absent, Active, Waiting as WaitingFor}
+use Rattle.protocol.specs.declared.State.{State}
+use Rattle.protocol.proofs.Statements.{Grouped, Sound}
+use Rattle.protocol.proofs.Begin.{accepted-grouped}
+use Rattle.protocol.proofs.Ranks.{ranks-apart}
+use Rattle.protocol.proofs.Told.{rank-told, mode-active, mode-spin, mode-sleep, mode-absent}
+use Rattle.protocol.proofs.Demands.{chain}
+
+no-more : (x : Standing) → standingNo x ≤ suspended
+no-more Absent = omega arith
+no-more Active = omega arith
+no-more (WaitingFor (Short r)) = omega arith
+no-more (WaitingFor (Long r)) = omega arith
+
+module _ (s : State) (Q : Sound s) where
+  G : Grouped (s .setup)
+  G = accepted-grouped (s .setup) (Q .setup)
+
+  stand-most : (t : ℕ) → stand s t ≤ suspended
+  unfolding stand
+  stand-most t = no-more (task s t .standing)
+
+  -- the jobs that the scheduler is told are runnable are those that are
+  told-runnable : (t : ℕ) → t < mostTasks → isRunnableJob (jobs (s .setup) s) t ≡ isRunnable s t
+  told-runnable t h = elim (ℕ-discrete (stand s t) absent) [
+    | yes e ↦ rw (lt-leb preemptable (modeOf (jobs (s .setup) s) t) (omega (arith, mode-absent (s .setup) s t h e)), eq-eqb _ _ e)
+    | no a ↦ elim (ℕ-discrete (stand s t) suspended) [
+      | yes e ↦ rw (lt-leb preemptable (modeOf (jobs (s .setup) s) t) (omega (arith, mode-sleep (s .setup) s t h e)), eq-eqb _ _ e, ne-eqb _ _ a)
+      | no b ↦ elim (ℕ-discrete (stand s t) spinning) [
+        | yes e ↦ rw (le-leb preemptable (modeOf (jobs (s .setup) s) t) (omega (arith, mode-spin (s .setup) s t h e)), ne-eqb _ _ a, ne-eqb _ _ b)
+        | no d ↦ rw (le-leb preemptable (modeOf (jobs (s .setup) s) t) (mode-active (s .setup) s t h (omega (arith, stand-most t))), ne-eqb _ _ a, ne-eqb _ _ b)
+      ]
+    ]
+  ]
+
+  told-ahead : (t u : ℕ) → t < mostTasks → u < mostTasks → isAheadJob (jobs (s .setup) s) t u ≡ isAhead s t u
+  told-ahead t u h l = rw (told-runnable u l, rank-told (s .setup) s t h, rank-told (s .setup) s u l)
+
+  pub priorities-apart : PrioritiesApart s
+  priorities-apart t u h l r q e =
+      let a = simp tests at r in
+      let b = simp tests at q in
+      ranks-apart (s .setup) G s nobody (Q .steady .locks) t u h l (a .1) (b .1) e
+
+  pub links-highest : LinksHighest s (s .setup .processors)
+  links-highest =
+      let P = Q .steady .placed in
+      record {
+        highest = λ t h.
+            let law = linked-law (s .processors) (jobs (s .setup) s) P t h in
+            let many = howMany-same (isAheadJob (jobs (s .setup) s) t) (isAhead s t) mostTasks (λ u l. told-ahead t u h l) in (
+              (λ x.
+                  let y = law .0 x in
+                  (sym (told-runnable t h) ∙ le-leb _ _ (y .0 .mode), omega (arith, many, y .1, Q .count))),
+              λ x. law .1 (record { task = h; mode = leb-true _ _ (told-runnable t h ∙ x .0) }, omega (arith, many, x .1, Q .count)),
+            );
+        once = P .settled .linked-once;
+        many =
+            let m = linked-many-law (s .processors) (jobs (s .setup) s) P in
+            let r = howMany-same (isRunnableJob (jobs (s .setup) s)) (isRunnable s) mostTasks told-runnable in
+            omega (arith, m, r, Q .count);
+      }
+
+  pub one-holder : OneHolder s
+  one-holder t u i k a b e =
+      let L = Q .steady .locks in
+      let h = L .tasks t .opened .held i a .1 in
+      (sym h ∙ ap (holder s) e ∙ L .tasks u .opened .held k b .1, h)
+
+  pub chains-end : ChainsEnd s
+  chains-end =
+      let links = chain (s .setup) G s (Q .steady .locks) in
+      let ends : (t : ℕ) → Waiting s t → (u : ℕ) → holder s (groupOf (s .setup) (asked s t)) ≡ u → (Waiting s u → ⊥) ⊎ ((v : ℕ) × WaitsFor s u v × (Waiting s v → ⊥)) = λ t w u e.
+      subst (λ (h : ℕ). (Waiting s h → ⊥) ⊎ ((v : ℕ) × WaitsFor s h v × (Waiting s v → ⊥))) e
+      (⊎-elim (λ y. inl (λ z. omega arith))
+      (λ y. let z : Waiting s (holder s (groupOf (s .setup) (asked s t))) = omega arith in inr (_, (z, links _ z .0, refl), λ x. omega arith)) (links t w .1)) in
+      record {
+        one = λ t w. (holder s (groupOf (s .setup) (asked s t)), (w, links t w .0, refl), λ v x. sym (x .2));
+        two = λ t u x. ends t (x .0) u (x .2);
+      }
