@@ -1,10 +1,10 @@
 -- `Placed` is not empty: two processors, task 0 runs linked on processor 0; task 1 runs non-preemptably on processor 1, whose link
 -- the higher task 2 has; task 3 is ready. Task 2 is linked but not running. Assumes nothing.
-use Prim.Native.Nat.{ℕ, _≤_}
+use Prim.Native.Nat.{_≤_}
 use native.Mathlib.Nat.{le-refl}
 use native.Mathlib.Omega.{arith}
 use mathlib.Core.Path.{_≡_, refl}
-use mathlib.Core.List.{List, [], _∷_, _++_}
+use mathlib.Core.List.{[], _∷_, _++_}
 use lib.ListN.{replicate}
 use mathlib.Core.Bool.{true}
 use Rattle.search.specs.Below.{allBelow}

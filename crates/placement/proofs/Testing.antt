@@ -7,9 +7,9 @@ use native.Mathlib.Omega.{arith}
 use native.Mathlib.Decide.{decLt}
 use lib.ListN.{List·getD-eq-default}
 use Rattle.search.proofs.Tests.{tests}
-use Rattle.processors.specs.Limits.{processors, tasks, nobody}
+use Rattle.processors.specs.Limits.{processors, nobody}
 use Rattle.processors.specs.Words.{link, runs, linkOf, runOf}
-use Rattle.scheduler.specs.Placed.{Runnable, Sized, Placed, Unlinked}
+use Rattle.scheduler.specs.Placed.{Sized, Placed}
 use Rattle.placement.specs.PlacedTest.{linkHolds, runHolds, processorHolds, linksHigher, taskHolds, isPlaced}
 use Rattle.processors.specs.declared.Jobs.{Jobs}
 use Rattle.processors.specs.declared.Processors.{Processors}

@@ -6,7 +6,7 @@ use lib.Dec.{leb, ltb}
 use lib.ListN.{getD, set, replicate}
 use Rattle.search.specs.Words.{_is_, _isn't_}
 use Rattle.search.specs.First.{first}
-use Rattle.processors.specs.Limits.{processors, tasks, nobody, preemptable, number}
+use Rattle.processors.specs.Limits.{processors, nobody, preemptable, number}
 use Rattle.processors.specs.declared.Mode.the-variants.{Off}
 use Rattle.processors.specs.declared.Job.{Job}
 use Rattle.processors.specs.declared.Jobs.{Jobs}

@@ -1,24 +1,21 @@
 -- Demand 3, of any sound state. Assumes nothing.
 use Prim.Native.Nat.{ℕ, _<_, _≤_}
 use mathlib.Core.Path.{_≡_, refl, sym, ap, subst, _∙_}
-use mathlib.Core.Bool.{Bool, true, false, _&&_}
+use mathlib.Core.Bool.{_&&_}
 use mathlib.Core.Logic.{_≢_, _⊎_, inl, inr, ⊎-elim, _↔_}
 use native.Mathlib.Omega.{arith}
-use native.Mathlib.Decide.{ℕ-discrete, decLt}
-use lib.Dec.{leb}
+use native.Mathlib.Decide.{ℕ-discrete}
 use borrow.Author.Tests.{le-leb, lt-leb, ne-eqb, eq-eqb, leb-true}
 use Rattle.search.specs.Words.{_isn't_}
-use Rattle.search.specs.Below.{howMany}
-use Rattle.search.proofs.Tests.{tests, never}
+use Rattle.search.proofs.Tests.{tests}
 use Rattle.search.proofs.Pigeons.{howMany-same}
-use Rattle.processors.specs.Limits.{processors, tasks, nobody, off, preemptable, nonPreemptable}
-use Rattle.processors.specs.Words.{link, rankOf, modeOf, isRunnable as isRunnableJob, isAhead as isAheadJob}
-use Rattle.scheduler.specs.Placed.{Runnable}
+use Rattle.processors.specs.Limits.{processors, tasks, nobody, preemptable}
+use Rattle.processors.specs.Words.{modeOf, isRunnable as isRunnableJob, isAhead as isAheadJob}
 use Rattle.scheduler.proofs.Laws.{linked-law, linked-many-law}
 use Rattle.input.specs.Limits.{mostTasks}
 use Rattle.input.specs.Naming.{groupOf}
-use Rattle.protocol.specs.Words.{absent, active, spinning, suspended, standingNo, task, stand, asked, depth, request, holder}
-use Rattle.protocol.specs.Ranks.{effective, jobs}
+use Rattle.protocol.specs.Words.{absent, spinning, suspended, standingNo, task, stand, asked, holder}
+use Rattle.protocol.specs.Ranks.{jobs}
 use Rattle.protocol.specs.Demands.{isRunnable, isAhead, PrioritiesApart, LinksHighest, OneHolder, Waiting, WaitsFor, ChainsEnd}
 use Rattle.protocol.specs.declared.Lock.the-variants.{Short, Long}
 use Rattle.protocol.specs.declared.Standing.{Standing}

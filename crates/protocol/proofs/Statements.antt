@@ -2,7 +2,7 @@
 -- equations between a state s and the next, s′. Everything is said over the numbers that `Words` reads off a state. Assumes nothing.
 use Prim.Native.Nat.{ℕ, suc, _+_, _-_, _<_, _≤_}
 use mathlib.Core.Path.{_≡_}
-use mathlib.Core.Bool.{Bool, true, false}
+use mathlib.Core.Bool.{true, false}
 use mathlib.Core.Logic.{_≢_}
 use lib.ListN.{length}
 use Rattle.queue.specs.Tidy.{Tidy}

@@ -5,8 +5,6 @@ use mathlib.Core.Logic.{_≢_, _⊎_, inl, inr, ⊎-elim, _↔_}
 use mathlib.Core.Bool.{Bool, true, false}
 use native.Mathlib.Omega.{arith}
 use native.Mathlib.Decide.{decLt}
-use lib.ListN.{getD, List·getD-eq-default}
-use Rattle.search.specs.Table.{table}
 use Rattle.search.proofs.Tests.{tests, never}
 use Rattle.search.proofs.Tables.{table-at, table-past}
 use Rattle.processors.specs.Limits.{preemptable, nonPreemptable, number, off}

@@ -11,14 +11,14 @@ use Rattle.search.specs.Words.{if_then_else_, _is_, _isn't_}
 use Rattle.search.specs.Below.{howMany}
 use Rattle.processors.specs.Limits.{processors}
 use Rattle.processors.specs.Words.{link}
-use Rattle.input.specs.Limits.{mostTasks, short}
+use Rattle.input.specs.Limits.{mostTasks}
 use Rattle.input.specs.Words.{kind}
 use Rattle.input.specs.Refusals.{setUpRefusal}
 use Rattle.input.specs.Naming.{groupOf}
-use Rattle.input.specs.Kinds.{arrival, finish, request as asking, completion}
+use Rattle.input.specs.Kinds.{arrival, finish, completion}
 use Rattle.input.specs.declared.SetUp.{SetUp}
 use Rattle.input.specs.declared.Event.{Event}
-use Rattle.protocol.specs.Words.{nobody, lastClock, sum, absent, spinning, suspended, task, stand, asked, depth, request, holder, len, waiter}
+use Rattle.protocol.specs.Words.{nobody, lastClock, absent, spinning, suspended, task, stand, asked, depth, request, holder, len, waiter}
 use Rattle.protocol.specs.Ranks.{effective}
 use Rattle.protocol.specs.Situations.{situation, totalOf}
 use Rattle.protocol.specs.Refusals.{stepOf, judge}

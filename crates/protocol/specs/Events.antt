@@ -1,6 +1,6 @@
 -- Document 01, 'Events' and 'Tick totals': what an accepted event does. c is the set-up of s.
 use Prim.Native.Nat.{ℕ, _+_}
-use mathlib.Core.Bool.{Bool, _||_}
+use mathlib.Core.Bool.{_||_}
 use mathlib.Core.List.{List, [], _∷_}
 use lib.ListN.{getD, set, replicate}
 use Rattle.search.specs.Words.{if_then_else_, _is_, _isn't_}

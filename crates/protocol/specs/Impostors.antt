@@ -4,7 +4,6 @@ use Prim.Native.Nat.{ℕ}
 use mathlib.Core.Path.{ap}
 use mathlib.Core.Logic.{_≢_}
 use native.Mathlib.Omega.{arith}
-use Rattle.search.specs.First.{first}
 use Rattle.processors.specs.Words.{runs}
 use Rattle.input.specs.declared.Event.{Event}
 use Rattle.protocol.specs.Events.{step}

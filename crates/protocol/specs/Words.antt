@@ -1,6 +1,6 @@
 -- Words over a state: what a standing says, the parts of a state, and the empty records.
 use Prim.Native.Nat.{ℕ, _+_}
-use mathlib.Core.Bool.{Bool, false}
+use mathlib.Core.Bool.{false}
 use mathlib.Core.List.{List, [], _∷_}
 use lib.ListN.{getD, replicate}
 use Rattle.queue.specs.Waiting.{waiter as queued, empty}

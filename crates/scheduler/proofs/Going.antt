@@ -1,8 +1,8 @@
 -- A job leaves its processor: by finishing or suspending, where another may inherit its rank, or by giving way. Assumes nothing.
-use Prim.Native.Nat.{ℕ, suc, _<_, _≤_}
+use Prim.Native.Nat.{ℕ, _<_, _≤_}
 use mathlib.Core.Path.{_≡_, refl, sym, ap, subst, _∙_}
 use mathlib.Core.Bool.{Bool, true, false, _&&_}
-use mathlib.Core.Logic.{_≢_, _⊎_, inl, inr, ⊎-elim}
+use mathlib.Core.Logic.{_≢_, _⊎_, inl, ⊎-elim}
 use native.Mathlib.Omega.{arith}
 use native.Mathlib.Decide.{ℕ-discrete, decLt}
 use lib.Dec.{ltb}
@@ -10,8 +10,8 @@ use borrow.Author.Tests.{lt-ltb, eq-eqb, ne-eqb, ltb-true, ltb-false}
 use Rattle.search.specs.Words.{if_then_else_}
 use Rattle.search.proofs.Tests.{and-left, and-right}
 use Rattle.processors.specs.Limits.{processors, tasks, nobody, preemptable}
-use Rattle.processors.specs.Words.{link, runs, rankOf, modeOf, runOf, isHigher, isAwaited, placeOn}
-use Rattle.scheduler.specs.Leaving.{nextTask, refilling, leavingFrom, leaving, givingWay}
+use Rattle.processors.specs.Words.{link, runs, rankOf, modeOf, runOf, isHigher, placeOn}
+use Rattle.scheduler.specs.Leaving.{nextTask, leavingFrom, leaving, givingWay}
 use Rattle.scheduler.specs.Placed.{Runnable, Settled, Placed, Unlinked}
 use Rattle.scheduler.specs.Changes.{Apart, Raises, Lowers}
 use Rattle.processors.specs.declared.Jobs.{Jobs}

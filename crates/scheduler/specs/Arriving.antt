@@ -6,7 +6,7 @@ use Rattle.search.specs.Words.{if_then_else_, _is_}
 use Rattle.search.specs.First.{first}
 use Rattle.search.specs.Best.{best}
 use Rattle.processors.specs.Limits.{processors, nobody, preemptable}
-use Rattle.processors.specs.Words.{rankOf, modeOf, link, runs, isHigher, placeOn, linkOn}
+use Rattle.processors.specs.Words.{modeOf, link, runs, isHigher, placeOn, linkOn}
 use Rattle.processors.specs.declared.Jobs.{Jobs}
 use Rattle.processors.specs.declared.Processors.{Processors}
 

@@ -1,6 +1,6 @@
 -- The rules 'Becoming preemptable' and 'Finish or suspend', and the step of a long completion in which the completer gives way.
 use Prim.Native.Nat.{ℕ}
-use mathlib.Core.Bool.{Bool, _&&_}
+use mathlib.Core.Bool.{_&&_}
 use lib.Dec.{ltb}
 use Rattle.search.specs.Words.{if_then_else_}
 use Rattle.search.specs.Best.{best}

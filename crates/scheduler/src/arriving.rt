@@ -10,11 +10,10 @@ use processors::runs_at;
 ghost use mathlib.Core.Path.{_≡_};
 ghost use Prim.Native.Nat.{_<_};
 ghost use mathlib.Core.Bool.{_&&_};
-ghost use lib.Dec.{ltb};
 ghost use Rattle.search.specs.First.{bit, mask};
 ghost use Rattle.search.specs.Best.{better};
 ghost use Rattle.processors.specs.Limits.{processors};
-ghost use Rattle.processors.specs.Words.{link, isHigher};
+ghost use Rattle.processors.specs.Words.{link};
 ghost use Rattle.scheduler.specs.Arriving.{isUsed, isFree, linksLower, lowestLinked, isPreempted, displacing, arriving};
 
 fn is_free(p: Processors, k: usize) -> bool

@@ -10,7 +10,7 @@ use lib.ListN.{length, getD}
 use borrow.Author.Tests.{eqb-false, not-true}
 use Rattle.search.specs.Words.{if_then_else_, _isn't_}
 use Rattle.search.specs.Rows.{Row, firstOf, isNumbered}
-use Rattle.search.proofs.Tests.{never, and-left, and-right}
+use Rattle.search.proofs.Tests.{and-left, and-right}
 
 abbrev pub noRow : Row
 noRow = (0, false)

@@ -4,9 +4,9 @@ use native.Mathlib.Nat.{not-suc-le-zero}
 use native.Mathlib.Numerals.{add-one}
 use native.Mathlib.Omega.{arith}
 use native.Mathlib.Decide.{ℕ-discrete}
-use mathlib.Core.Path.{_≡_, refl, sym, ap, _∙_}
+use mathlib.Core.Path.{_≡_, refl, sym, _∙_}
 use mathlib.Core.List.{List, [], _∷_, _++_, append-assoc, append-nil}
-use lib.ListN.{length, getD, set, drop, replicate, length-append, length-drop, List·getD-append, List·getD-eq-default, drop-of-length-le}
+use lib.ListN.{length, getD, set, drop, replicate, length-append, List·getD-append, List·getD-eq-default, drop-of-length-le}
 use lib.Seq.{getD-at, set-at, drop-cons, ext-getD}
 use Rattle.search.specs.Table.{table}
 

@@ -1,11 +1,9 @@
 -- Past the arrays nothing is set. Assumes nothing.
 use Prim.Native.Nat.{_≤_}
-use mathlib.Core.Path.{ap}
 use native.Mathlib.Omega.{arith}
-use lib.ListN.{length, set, length-map}
+use lib.ListN.{length, length-map}
 use lib.Seq.{set-out}
 use borrow.Author.Needs.{needs}
-use Rattle.processors.specs.declared.Processors.{Processors}
 use Rattle.processors.proofs.changing.place_on.Statement.{statement}
 use Rattle.processors.proofs.changing.place_on.Tie as tie
 
