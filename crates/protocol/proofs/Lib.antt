@@ -13,4 +13,8 @@ pub mod Steps
 pub mod Begin
 pub mod Reflect
 pub mod Dates
+pub mod Quiets
+pub mod Step
+pub mod Totals
 pub mod Holding
+pub mod Theorems

@@ -43,6 +43,16 @@ impl Task {
     pub const REQUESTS: usize = 8;
     // Running, spinning, linked but not running, ready, suspended.
     pub const TOTALS: usize = 5;
+    // No task and no resource; what an empty place holds.
+    pub const NOTHING: u8 = 255;
+    // The numbers of the standings: no job, active, spinning on a short group, suspended on a long one.
+    pub const ABSENT: u8 = 0;
+
+    pub const ACTIVE: u8 = 1;
+
+    pub const SPINNING: u8 = 2;
+
+    pub const SUSPENDED: u8 = 3;
 }
 
 // A group's place is that of its lowest resource.

@@ -145,6 +145,10 @@ module _ (p : Processors) (j : Jobs) (t : ℕ) where
       let l = lowestLinked p j in
       if-count (ltb k processors) _ _ _ refl (if-count (ltb l processors && isHigher j t (link p l)) _ _ _ (if-count (isPreempted p j l) _ _ _ refl refl) refl)
 
+  pub arriving-count : arriving p j t .count ≡ p .count
+  unfolding arriving
+  arriving-count = arriving-on-count (lowestFree p)
+
   pub softening-count : becomingPreemptable p t .count ≡ p .count
   unfolding becomingPreemptable
   softening-count = if-count (ltb (runOf p t) processors) _ _ _ (if-count (isAwaited p (runOf p t)) _ _ _ refl refl) refl
