@@ -1,5 +1,5 @@
 -- Demand 3, of any sound state. Assumes nothing.
-use Prim.Native.Nat.{ℕ, _<_, _≤_}
+use Prim.Native.Nat.{ℕ, zero, suc, _<_, _≤_}
 use mathlib.Core.Path.{_≡_, refl, sym, ap, subst, _∙_}
 use mathlib.Core.Bool.{_&&_}
 use mathlib.Core.Logic.{_≢_, _⊎_, inl, inr, ⊎-elim, _↔_}
@@ -12,11 +12,12 @@ use Rattle.search.proofs.Pigeons.{howMany-same}
 use Rattle.processors.specs.Limits.{processors, tasks, nobody, preemptable}
 use Rattle.processors.specs.Words.{modeOf, isRunnable as isRunnableJob, isAhead as isAheadJob}
 use Rattle.scheduler.proofs.Laws.{linked-law, linked-many-law}
-use Rattle.input.specs.Limits.{mostTasks}
+use Rattle.input.specs.Limits.{mostTasks, short}
+use Rattle.input.specs.Words.{kind}
 use Rattle.input.specs.Naming.{groupOf}
-use Rattle.protocol.specs.Words.{absent, spinning, suspended, standingNo, task, stand, asked, holder}
+use Rattle.protocol.specs.Words.{absent, spinning, suspended, standingNo, task, stand, asked, holder, len, waiter}
 use Rattle.protocol.specs.Ranks.{jobs}
-use Rattle.protocol.specs.Demands.{isRunnable, isAhead, PrioritiesApart, LinksHighest, OneHolder, Waiting, WaitsFor, ChainsEnd}
+use Rattle.protocol.specs.Demands.{isRunnable, isAhead, PrioritiesApart, LinksHighest, OneHolder, Waiting, WaitsFor, ChainsEnd, OnePlace}
 use Rattle.protocol.specs.declared.Lock.the-variants.{Short, Long}
 use Rattle.protocol.specs.declared.Standing.{Standing}
 use Rattle.protocol.specs.declared.Standing.the-variants.{Absent, Active, Waiting as WaitingFor}
@@ -25,7 +26,7 @@ use Rattle.protocol.proofs.Statements.{Grouped, Sound}
 use Rattle.protocol.proofs.Begin.{accepted-grouped}
 use Rattle.protocol.proofs.Ranks.{ranks-apart}
 use Rattle.protocol.proofs.Told.{rank-told, mode-active, mode-spin, mode-sleep, mode-absent}
-use Rattle.protocol.proofs.Demands.{chain}
+use Rattle.protocol.proofs.Demands.{chain, holder-stands}
 
 no-more : (x : Standing) → standingNo x ≤ suspended
 no-more Absent = omega arith
@@ -99,3 +100,15 @@ module _ (s : State) (Q : Sound s) where
         one = λ t w. (holder s (groupOf (s .setup) (asked s t)), (w, links t w .0, refl), λ v x. sym (x .2));
         two = λ t u x. ends t (x .0) u (x .2);
       }
+
+  -- a short group's holder does not wait there
+  not-both : (g t n : ℕ) → kind (s .setup) g ≡ short → t ≢ nobody → holder s g ≡ t → n < len s g → waiter s g n ≡ t → ⊥
+  not-both g t n k d h l e =
+      let q = Q .steady .locks .groups g .queued n l .0 in
+      ⊎-elim (λ y. omega (arith, q, ap (stand s) (e ∙ sym h))) (λ y. omega (arith, y .1)) (holder-stands (s .setup) G s (Q .steady .locks) g (λ z. d (sym h ∙ z)))
+
+  pub one-place : OnePlace s
+  one-place g t zero zero k d x y = refl
+  one-place g t zero (suc n) k d x y = absurd (not-both g t n k d x (y .0) (y .1))
+  one-place g t (suc m) zero k d x y = absurd (not-both g t m k d y (x .0) (x .1))
+  one-place g t (suc m) (suc n) k d x y = ap suc (Q .steady .locks .groups g .once m n (x .0) (y .0) (x .1 ∙ sym (y .1)))

@@ -16,5 +16,9 @@ pub mod Dates
 pub mod Quiets
 pub mod Step
 pub mod Totals
+pub mod Places
+pub mod Stays
+pub mod Short
 pub mod Holding
 pub mod Theorems
+pub mod WitnessCases

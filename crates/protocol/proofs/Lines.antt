@@ -97,7 +97,7 @@ module _ (s : State) (g : ℕ) (in-groups : g < length (s .groups)) where
   unfolding calls len waiter
   calls-lines = lines-off (group s g .holder) (withoutFirst (group s g .queue))
 
-  calls-in : g < length (calls g s .groups)
+  pub calls-in : g < length (calls g s .groups)
   unfolding calls
   calls-in = lt-length-set (s .groups) g _ in-groups
 
@@ -149,9 +149,9 @@ module _ (c : SetUp) (t r : ℕ) (s : State) (h : groupOf c r < length (s .group
   f : State
   f = frees g (closes t s)
 
-  f-in : g < length (f .groups)
-  unfolding f frees closes
-  f-in = lt-length-set (s .groups) g _ h
+  pub freed-in : groupOf c r < length (frees (groupOf c r) (closes t s) .groups)
+  unfolding frees closes
+  freed-in = lt-length-set (s .groups) g _ h
 
   f-lines : (a : ℕ) → Lines s f a
   unfolding f
@@ -165,8 +165,8 @@ module _ (c : SetUp) (t r : ℕ) (s : State) (h : groupOf c r < length (s .group
   b = givesWay c t f
 
   b-in : g < length (b .groups)
-  unfolding b givesWay
-  b-in = f-in
+  unfolding f b givesWay
+  b-in = freed-in
 
   b-lines : (a : ℕ) → Lines s b a
   unfolding b
@@ -181,7 +181,7 @@ module _ (c : SetUp) (t r : ℕ) (s : State) (h : groupOf c r < length (s .group
   unfolding f b
   outer-lines e a d = complete-by c t r s (λ x. Lines s x a) (never e)
       (λ _ _ _. lines-then s f _ a (f-lines a) (softens-lines c t f a))
-      (λ _ _ _. lines-then s f _ a (f-lines a) (lines-then f (passes g f) _ a (passes-lines f g f-in a d) (softens-lines c t (passes g f) a)))
+      (λ _ _ _. lines-then s f _ a (f-lines a) (lines-then f (passes g f) _ a (passes-lines f g freed-in a d) (softens-lines c t (passes g f) a)))
       (λ _ _ _. b-lines a)
       (λ _ _ _. lines-then s b _ a (b-lines a) (lines-then b (passes g b) _ a (passes-lines b g b-in a d) (arrives-lines c (nextAt s g) (passes g b) a)))
 
@@ -189,6 +189,6 @@ module _ (c : SetUp) (t r : ℕ) (s : State) (h : groupOf c r < length (s .group
   unfolding f b
   outer-ups e = complete-by c t r s (λ x. Ups s x g) (never e)
       (λ _ _ z i l. absurd (omega arith))
-      (λ _ _ _. lines-up s f _ g (f-lines g) (up-lines f (passes g f) _ g (passes-ups f g f-in f-tidy) (softens-lines c t (passes g f) g)))
+      (λ _ _ _. lines-up s f _ g (f-lines g) (up-lines f (passes g f) _ g (passes-ups f g freed-in f-tidy) (softens-lines c t (passes g f) g)))
       (λ _ _ z i l. absurd (omega arith))
       (λ _ _ _. lines-up s b _ g (b-lines g) (up-lines b (passes g b) _ g (passes-ups b g b-in b-tidy) (arrives-lines c (nextAt s g) (passes g b) g)))

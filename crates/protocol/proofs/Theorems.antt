@@ -5,7 +5,9 @@ use mathlib.Core.List.{List, _∷_, _++_}
 use mathlib.Core.Logic.{_≢_}
 use mathlib.Core.Bool.{true, false}
 use borrow.Author.Tests.{eq-eqb}
-use Rattle.input.specs.Limits.{mostTasks}
+use Rattle.input.specs.Limits.{mostTasks, short}
+use Rattle.input.specs.Words.{kind}
+use Rattle.input.specs.Kinds.{request as asking}
 use Rattle.input.specs.Refusals.{setUpRefusal}
 use Rattle.input.specs.Clearing.{cleared}
 use Rattle.input.specs.declared.SetUp.{SetUp}
@@ -13,15 +15,17 @@ use Rattle.input.specs.declared.Event.{Event}
 use Rattle.protocol.specs.Sound.{sound}
 use Rattle.protocol.specs.Refusals.{judge}
 use Rattle.protocol.specs.Words.{sum, task}
+use Rattle.protocol.specs.Ranks.{shortOpen}
 use Rattle.protocol.specs.Events.{fresh, begin}
-use Rattle.protocol.specs.Demands.{Given, after, PrioritiesApart, LinksHighest, OneHolder, ChainsEnd, ShortQueue, Charges, pendingTicks}
+use Rattle.protocol.specs.Demands.{Given, after, PrioritiesApart, LinksHighest, OneHolder, ChainsEnd, OnePlace, ShortQueue, Charges, pendingTicks}
 use Rattle.protocol.specs.declared.State.{State}
 use Rattle.protocol.proofs.Statements.{Sound}
 use Rattle.protocol.proofs.Begin.{begin-sound}
 use Rattle.protocol.proofs.Reflect.{test-of-sound}
 use Rattle.protocol.proofs.Step.{run-sound, run-setup, refused-out}
 use Rattle.protocol.proofs.Totals.{charges, totals-after}
-use Rattle.protocol.proofs.Holding.{priorities-apart, links-highest, one-holder, chains-end}
+use Rattle.protocol.proofs.Holding.{priorities-apart, links-highest, one-holder, chains-end, one-place}
+use Rattle.protocol.proofs.Short.{short-queue}
 
 module _ (c : SetUp) (g : Given c) (es : List Event) where
   start : Sound (begin c .state)
@@ -55,6 +59,14 @@ module _ (c : SetUp) (g : Given c) (es : List Event) where
 
   pub chains-end-after : ChainsEnd (after c es)
   chains-end-after = chains-end (after c es) Q
+
+  -- a request for a short resource by a job with no short request open
+  pub short-queue-after : (e : Event) → judge (after c es) e ≡ 0 → e .kind ≡ asking → kind (after c es .setup) (e .resource) ≡ short
+      → shortOpen (after c es .setup) (after c es) (e .task) ≡ false → ShortQueue (after c es) e (c .processors)
+  short-queue-after e ok k s o = subst (ShortQueue (after c es) e) same-count (short-queue (after c es) e Q ok k s o)
+
+  pub one-place-after : OnePlace (after c es)
+  one-place-after = one-place (after c es) Q
 
   -- ---- totals
   pub charges-after : (e : Event) (t : ℕ) → judge (after c es) e ≡ 0 → t < mostTasks → Charges (after c es) e t

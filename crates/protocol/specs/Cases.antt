@@ -81,7 +81,7 @@ abbrev filled : ℕ → List ℕ → List ℕ
 filled n xs = xs ++ replicate (n - length xs) 0
 
 -- processors, start, periods, kinds, and the pairs' outer and inner resources
-abbrev given : ℕ → ℕ → List ℕ → List ℕ → List ℕ → List ℕ → SetUp
+abbrev pub given : ℕ → ℕ → List ℕ → List ℕ → List ℕ → List ℕ → SetUp
 given m start periods kinds outer inner = record {
   processors = m;
   tasks = length periods;

@@ -11,7 +11,7 @@ use Rattle.search.specs.Words.{if_then_else_, _is_, _isn't_}
 use Rattle.search.specs.Below.{howMany}
 use Rattle.processors.specs.Limits.{processors}
 use Rattle.processors.specs.Words.{link}
-use Rattle.input.specs.Limits.{mostTasks}
+use Rattle.input.specs.Limits.{mostTasks, short}
 use Rattle.input.specs.Words.{kind}
 use Rattle.input.specs.Refusals.{setUpRefusal}
 use Rattle.input.specs.Naming.{groupOf}
@@ -82,6 +82,10 @@ pub record ChainsEnd (s : State) : Type 0 where
 abbrev pub Before : State → ℕ → ℕ → ℕ → Type 0
 Before s g t zero = holder s g ≡ t
 Before s g t (suc n) = (n < len s g) × (waiter s g n ≡ t)
+
+-- and no other number: a job has one place at a short group
+abbrev pub OnePlace : State → Type 0
+OnePlace s = (g t n k : ℕ) → kind (s .setup) g ≡ short → t ≢ nobody → Before s g t n → Before s g t k → n ≡ k
 
 -- e is accepted and completes an outermost request at g
 unfoldable pub handsOver : State → Event → ℕ → Bool

@@ -1,0 +1,208 @@
+-- A short request's place: each completion of an outermost request at the group moves it up by exactly one, and nothing else moves
+-- it; until it holds the group, it spins for what it asked. Assumes nothing.
+use Prim.Native.Nat.{ℕ, zero, suc, _+_, _<_, _≤_}
+use mathlib.Core.Path.{_≡_, refl, sym, ap, subst, _∙_}
+use mathlib.Core.Bool.{Bool, true, false, not, _&&_}
+use mathlib.Core.List.{List, [], _∷_}
+use mathlib.Core.Logic.{_≢_}
+use native.Mathlib.Omega.{arith}
+use native.Mathlib.Decide.{ℕ-discrete}
+use lib.ListN.{length}
+use borrow.Author.Tests.{eq-eqb, ne-eqb, not-true}
+use Rattle.search.specs.Words.{if_then_else_, _is_}
+use Rattle.search.specs.Below.{anyBelow}
+use Rattle.search.proofs.Tests.{tests, never}
+use Rattle.queue.specs.Tidy.{Tidy}
+use Rattle.input.specs.Limits.{mostTasks, mostResources, short}
+use Rattle.input.specs.Words.{kind}
+use Rattle.input.specs.Naming.{groupOf}
+use Rattle.input.specs.Kinds.{request as asking, completion}
+use Rattle.input.specs.declared.SetUp.{SetUp}
+use Rattle.input.specs.declared.Event.{Event}
+use Rattle.input.proofs.Accepted.{accepted-iff}
+use Rattle.protocol.specs.Words.{nobody, spinning, group, stand, asked, depth, len}
+use Rattle.protocol.specs.Ranks.{shortOpen}
+use Rattle.protocol.specs.Refusals.{stepOf, judge}
+use Rattle.protocol.specs.Locks.{openOfKind, queues, closes}
+use Rattle.protocol.specs.Events.{arrives, leaves, arriveEvent, finishEvent, requestEvent, completeEvent, charged, step, run}
+use Rattle.protocol.specs.Demands.{Before, handsOver, completions, ShortQueue}
+use Rattle.protocol.specs.declared.State.{State}
+use Rattle.protocol.proofs.Statements.{Grouped, Steady, Sound, Asks}
+use Rattle.protocol.proofs.Views.{same-group, opens-view, closes-view}
+use Rattle.protocol.proofs.Branches.{request-by}
+use Rattle.protocol.proofs.Edits.{pending-in}
+use Rattle.protocol.proofs.Told.{short-same}
+use Rattle.protocol.proofs.Dates.{same-lines}
+use Rattle.protocol.proofs.Demands.{few-at-short}
+use Rattle.protocol.proofs.Steps.{kind-none, queued, request-steady}
+use Rattle.protocol.proofs.Places.{request-before, inner-before, outer-before, outer-up, same-before}
+use Rattle.protocol.proofs.Step.{row11, row12, grouped, steady-of, same-of, asks-of, ends-of, step-by, refused, step-sound}
+use Rattle.protocol.proofs.Stays.{Same, step-stays}
+
+any-same : (n : ℕ) (f g : ℕ → Bool) → ((i : ℕ) → i < n → f i ≡ g i) → anyBelow n f ≡ anyBelow n g
+unfolding anyBelow
+any-same zero f g h = refl
+any-same (suc n) f g h = rw (any-same n f g (λ i l. h i (omega arith)), h n (omega arith))
+
+-- ---- an accepted event
+module _ (s : State) (e : Event) (Q : Sound s) (ok : judge s e ≡ 0) where
+  abbrev c : SetUp
+  c = s .setup
+
+  abbrev t : ℕ
+  t = e .task
+
+  abbrev r : ℕ
+  r = e .resource
+
+  abbrev s₁ : State
+  s₁ = charged (stepOf s e) s
+
+  g-in : (asking ≤ e .kind) × (e .kind ≤ completion) → groupOf c r < mostResources
+  g-in k = let G = grouped s e Q ok in omega (arith, G .low r (row12 s e Q ok k), G .few-resources)
+
+  g-there : (asking ≤ e .kind) × (e .kind ≤ completion) → groupOf c r < length (s₁ .groups)
+  g-there k = omega (arith, g-in k, steady-of s e Q ok .sized .groups)
+
+  tidy : (a : ℕ) → Tidy (group s₁ a .queue)
+  tidy = steady-of s e Q ok .blank .queues
+
+  -- whether the completed request was the outermost does not turn on the ticks
+  same-open : e .kind ≡ completion → openOfKind c (closes t s₁) t r ≡ openOfKind c (closes t s) t r
+  unfolding openOfKind
+  same-open k =
+      let S = Q .steady in
+      let S₁ = steady-of s e Q ok in
+      let same = same-of s e Q ok t in
+      let A = ends-of s e Q ok k in
+      let g-low = g-in (omega arith) in
+      let t-in : t < mostTasks = omega (arith, row11 s e Q ok (omega arith), grouped s e Q ok .few-tasks) in
+      let E = closes-view c s (S .sized) (S .blank) (groupOf c r) g-low t (A .left) t-in (sym (same .deep) ∙ A .some) (S .locks .tasks t .opened .few) in
+      let E₁ = closes-view c s₁ (S₁ .sized) (S₁ .blank) (groupOf c r) g-low t (A .left) t-in (A .some) (S₁ .locks .tasks t .opened .few) in
+      let deep : depth (closes t s₁) t ≡ depth (closes t s) t = omega (arith, E .deep, E₁ .deep, same .deep) in
+      rw deep (any-same _ _ _ (λ i l. ap (λ (x : ℕ). kind c x is kind c r) (E₁ .old i (omega arith) ∙ same .requested i ∙ sym (E .old i l))))
+
+  -- what the test says of an accepted completion
+  hands-is : e .kind ≡ completion → (g : ℕ) (b : Bool) → handsOver s e g ≡ b → (groupOf c r is g && not (openOfKind c (closes t s₁) t r)) ≡ b
+  unfolding handsOver
+  hands-is k g b q = rw (same-open k) (rw (eq-eqb _ _ ok, eq-eqb _ _ k) at q)
+
+  module _ (g w n : ℕ) where
+    aged : (m : ℕ) → Before s g w m → Before s₁ g w m
+    aged = same-before s s₁ (same-lines s (stepOf s e) (Q .steady .sized)) g w
+
+    place-kept : w ≢ nobody → handsOver s e g ≡ false → Before s g w n → Before (step s e .state) g w n
+    unfolding arriveEvent finishEvent arrives leaves
+    place-kept some q x =
+        let y = aged n x in
+        step-by s e Q ok (λ z. Before z g w n)
+        (λ _. same-before s₁ (arriveEvent c t s₁) (λ b. same-group s₁ _ b refl) g w n y)
+        (λ _. same-before s₁ (finishEvent c t s₁) (λ b. same-group s₁ _ b refl) g w n y)
+        (λ k. request-before c t r s₁ (g-there (omega arith)) tidy (steady-of s e Q ok) (asks-of s e Q ok k) g w n some y)
+        (λ k. completed (g-there (omega arith)) (hands-is k g false q) y (openOfKind c (closes t s₁) t r) refl)
+        (λ _. y)
+      where
+        completed : groupOf c r < length (s₁ .groups) → (groupOf c r is g && not (openOfKind c (closes t s₁) t r)) ≡ false → Before s₁ g w n
+            → (b : Bool) → openOfKind c (closes t s₁) t r ≡ b → Before (completeEvent c t r s₁) g w n
+        completed l q y true z = inner-before c t r s₁ l tidy z g w n y
+        completed l q y false z = outer-before c t r s₁ l tidy z g w n (λ i. never (rw (eq-eqb _ _ (sym i), z) at q) refl) y
+
+    place-up : handsOver s e g ≡ true → Before s g w (suc n) → Before (step s e .state) g w n
+    unfolding handsOver
+    place-up q x =
+        let z = simp tests at q in
+        let k : e .kind ≡ completion = z .0 .0 .1 in
+        let g-is : groupOf c r ≡ g = z .0 .1 in
+        let outer = same-open k ∙ not-true _ (z .1) in
+        step-by s e Q ok (λ z. Before z g w n) (λ y. absurd (omega arith)) (λ y. absurd (omega arith)) (λ y. absurd (omega arith))
+        (λ _. subst (λ (a : ℕ). Before s₁ a w (suc n) → Before (completeEvent c t r s₁) a w n) g-is (outer-up c t r s₁ (g-there (omega arith)) tidy outer w n) (aged (suc n) x))
+        (λ y. absurd (omega arith))
+
+-- ---- any event
+waits-of : (s : State) (g w n : ℕ) → Sound s → n ≢ 0 → Before s g w n → spinning ≤ stand s w
+waits-of s g w zero Q d x = absurd (d refl)
+waits-of s g w (suc n) Q d x = subst (λ (v : ℕ). spinning ≤ stand s v) (x .1) (Q .steady .locks .groups g .queued n (x .0) .0)
+
+-- by how many places e moves who waits at g
+abbrev hop : State → Event → ℕ → ℕ
+hop s e g = if handsOver s e g then 1 else 0
+
+idle : (s : State) (e : Event) (g : ℕ) → judge s e ≢ 0 → handsOver s e g ≡ false
+unfolding handsOver
+idle s e g d = rw (ne-eqb _ _ d)
+
+step-place : (s : State) (e : Event) (g w n : ℕ) → Sound s → w ≢ nobody → Before s g w (hop s e g + n)
+    → Before (step s e .state) g w n × (n ≢ 0 → Same s (step s e .state) w)
+step-place s e g w n Q some x = elim (ℕ-discrete (judge s e) 0) [
+  | yes ok ↦
+      let y = go ok (handsOver s e g) refl x in
+      (y, λ d. step-stays s e Q ok w (waits-of s g w (hop s e g + n) Q (λ z. d (omega arith)) x) (waits-of _ g w n (step-sound s e Q) d y))
+  | no d ↦ rw (refused s e d) (subst (Before s g w) (let z : 0 + n ≡ n = omega arith in z) (rw (idle s e g d) at x), λ _. (refl, refl))
+]
+  where
+    go : judge s e ≡ 0 → (b : Bool) → handsOver s e g ≡ b → Before s g w (hop s e g + n) → Before (step s e .state) g w n
+    go ok true q y = place-up s e Q ok g w n q (subst (Before s g w) (let z : 1 + n ≡ suc n = omega arith in z) (rw q at y))
+    go ok false q y = place-kept s e Q ok g w n some q (subst (Before s g w) (let z : 0 + n ≡ n = omega arith in z) (rw q at y))
+
+-- ---- any events: up by as many places as there were completions
+run-place : (es : List Event) (s : State) (g w n : ℕ) → Sound s → w ≢ nobody → Before s g w (completions s es g + n)
+    → Before (run s es) g w n × (n ≢ 0 → Same s (run s es) w)
+unfolding run completions
+run-place [] s g w n Q some x = (subst (Before s g w) (let z : 0 + n ≡ n = omega arith in z) x, λ _. (refl, refl))
+run-place (e ∷ es) s g w n Q some x =
+    let s′ = step s e .state in
+    let m = completions s′ es g in
+    let y = step-place s e g w (m + n) Q some (subst (Before s g w) (let z : (hop s e g + m) + n ≡ hop s e g + (m + n) = omega arith in z) x) in
+    let z = run-place es s′ g w n (step-sound s e Q) some (y .0) in
+    (z .0, λ d. let a = y .1 (λ q. d (omega arith)) in let b = z .1 d in (b .0 ∙ a .0, b .1 ∙ a .1))
+
+-- ---- a short request with no other short one open
+-- how many are before t, fewer than m; where there are some, t spins for r
+record Found (c : SetUp) (m t r : ℕ) (s : State) : Type 0 where
+  found : ℕ
+  few : found < m
+  place : Before s (groupOf c r) t found
+  spins : found ≢ 0 → (stand s t ≡ spinning) × (asked s t ≡ r)
+
+module _ (c : SetUp) (G : Grouped c) (s : State) (S : Steady c s) (t r : ℕ) (A : Asks c s t r) (is-short : kind c r ≡ short) (outer : openOfKind c s t r ≡ false) where
+  asks-found : 0 < s .processors .count → Found c (s .processors .count) t r (requestEvent c t r s)
+  unfolding requestEvent queues
+  asks-found some = request-by c t r s (Found c (s .processors .count) t r)
+      (λ _.
+      let E = opens-view c s (S .sized) (S .blank) (groupOf c r) (omega (arith, G .low r (A .inside), G .few-resources)) t r (pending-in c G s nobody t (S .locks) (λ z. omega (arith, A .acts .act))) (A .room) in
+      record { found = 0; few = some; place = E .holds; spins = λ d. absurd (d refl) })
+      (λ _ busy _.
+      let E = queued c G s S t r A busy (kind-none c s t r outer) in
+      let s′ = queues c t r (groupOf c r) s in
+      let S′ : Steady c s′ = rw (outer, ne-eqb _ _ busy, eq-eqb _ _ is-short) at (request-steady c G s S t r A) in
+      let few = few-at-short c G s′ S′ (groupOf c r) (G .alike r (A .inside) ∙ is-short) (λ y. busy (sym (E .holds) ∙ y)) in
+      record { found = suc (len s (groupOf c r)); few = omega (arith, few, E .long); place = (omega (arith, E .long), E .last); spins = λ _. (omega (arith, E .stood), E .wants) })
+      (λ _ _ d. absurd (d is-short))
+
+short-outer : (c : SetUp) (s : State) (t r : ℕ) → kind c r ≡ short → shortOpen c s t ≡ false → openOfKind c s t r ≡ false
+unfolding openOfKind shortOpen
+short-outer c s t r k h = rw k h
+
+pub short-queue : (s : State) (e : Event) → Sound s → judge s e ≡ 0 → e .kind ≡ asking → kind (s .setup) (e .resource) ≡ short → shortOpen (s .setup) s (e .task) ≡ false
+    → ShortQueue s e (s .setup .processors)
+unfolding charged
+short-queue s e Q ok ask is-short none =
+    let c = s .setup in
+    let t = e .task in
+    let r = e .resource in
+    let s₁ = charged (stepOf s e) s in
+    let g = groupOf c r in
+    let some : 0 < s .processors .count = omega (arith, Q .count, accepted-iff c .0 (Q .setup) .processors) in
+    let same = same-of s e Q ok t in
+    let F : Found c (s .processors .count) t r (step s e .state) = step-by s e Q ok (Found c (s .processors .count) t r)
+    (λ y. absurd (omega arith)) (λ y. absurd (omega arith))
+    (λ k. asks-found c (grouped s e Q ok) s₁ (steady-of s e Q ok) t r (asks-of s e Q ok k) is-short (short-outer c s₁ t r is-short
+    (short-same c s s₁ t (λ i l q. (i, omega (arith, same .deep), ap (kind c) (same .requested i) ∙ q)) (λ i l q. (i, omega (arith, same .deep), ap (kind c) (sym (same .requested i)) ∙ q)) ∙ none)) some)
+    (λ y. absurd (omega arith)) (λ y. absurd (omega arith)) in
+    record {
+      found = F .found;
+      few = omega (arith, F .few, Q .count);
+      later = λ es n q.
+          let z = run-place es (step s e .state) g t n (step-sound s e Q) (λ y. omega (arith, row11 s e Q ok (omega arith), grouped s e Q ok .few-tasks)) (subst (Before (step s e .state) g t) (sym q) (F .place)) in
+          (z .0, λ d. let a = z .1 d in let b = F .spins (λ y. d (omega arith)) in (a .0 ∙ b .0, a .1 ∙ b .1));
+    }

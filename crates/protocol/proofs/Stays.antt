@@ -1,0 +1,114 @@
+-- A job that waits before and after an event waits for the same all along: its standing is changed only by being called. Assumes nothing.
+use Prim.Native.Nat.{ℕ, _+_, _≤_}
+use mathlib.Core.Path.{_≡_, refl, ap, _∙_}
+use mathlib.Core.Logic.{_≢_, _⊎_, inl, inr, ⊎-elim}
+use mathlib.Core.List.{List}
+use native.Mathlib.Omega.{arith}
+use native.Mathlib.Decide.{decLt}
+use lib.ListN.{length, getD}
+use lib.Seq.{set-out}
+use Rattle.input.specs.Words.{kind, period}
+use Rattle.input.specs.Naming.{groupOf}
+use Rattle.input.specs.declared.SetUp.{SetUp}
+use Rattle.input.specs.declared.Event.{Event}
+use Rattle.protocol.specs.Words.{active, spinning, noTask, standingNo, askedOf, task, stand, asked}
+use Rattle.protocol.specs.Refusals.{stepOf, judge}
+use Rattle.protocol.specs.Locks.{standingAs, opening, closing, arriving, departing, onTask, lockOf, opens, queues, closes, frees, nextAt, calls, passes}
+use Rattle.protocol.specs.Events.{arrives, leaves, softens, givesWay, arriveEvent, finishEvent, requestEvent, completeEvent, charged, step}
+use Rattle.protocol.specs.declared.Standing.the-variants.{Active, Waiting}
+use Rattle.protocol.specs.declared.Task.{Task}
+use Rattle.protocol.specs.declared.State.{State}
+use Rattle.protocol.proofs.Statements.{Sound}
+use Rattle.protocol.proofs.Carry.{at-one}
+use Rattle.protocol.proofs.Views.{same-task, task-at, task-off}
+use Rattle.protocol.proofs.Branches.{request-by, complete-by}
+use Rattle.protocol.proofs.Step.{same-of, asks-of, step-by}
+
+-- w stands as it did, and asks for the same
+abbrev pub Same : State → State → ℕ → Type 0
+Same s s′ w = (stand s′ w ≡ stand s w) × (asked s′ w ≡ asked s w)
+
+-- if it waits in s′
+abbrev Stays : State → State → ℕ → Type 0
+Stays s s′ w = spinning ≤ stand s′ w → Same s s′ w
+
+stays-then : (s₁ s₂ s₃ : State) (w : ℕ) → Stays s₁ s₂ w → Stays s₂ s₃ w → Stays s₁ s₃ w
+stays-then s₁ s₂ s₃ w P Q h = let y = Q h in let x = P (omega (arith, y .0)) in (y .0 ∙ x .0, y .1 ∙ x .1)
+
+-- ---- the edits
+-- a task that waits no more, or stands as it did
+stays-task : (s : State) (t : ℕ) (f : Task → Task) → (standingNo (f (task s t) .standing) ≤ active) ⊎ (f (task s t) .standing ≡ task s t .standing) → (w : ℕ) → Stays s (onTask t f s) w
+unfolding stand asked
+stays-task s t f how = at-one (Stays s (onTask t f s)) t
+    (elim (decLt t (length (s .tasks))) [
+      | yes l ↦
+          let e = ap (λ (x : Task). x .standing) (task-at s t f l) in
+          λ h. ⊎-elim (λ z. absurd (omega (arith, ap standingNo e, h))) (λ z. (ap standingNo (e ∙ z), ap askedOf (e ∙ z))) how
+      | no l ↦
+          let e = ap (λ (x : List Task). getD x t noTask .standing) (set-out (s .tasks) t (f (task s t)) (omega arith)) in
+          λ h. (ap standingNo e, ap askedOf e)
+    ])
+    (λ u d h. let E = same-task s (onTask t f s) u (task-off s t f u d) in (E .stood, E .wants))
+
+module _ (s : State) (g w : ℕ) where
+  opens-stays : (t r : ℕ) → Stays s (opens t r g s) w
+  unfolding opens stand asked
+  opens-stays t r = stays-task s t (opening r) (inr refl) w
+
+  freed-stays : (t : ℕ) → Stays s (frees g (closes t s)) w
+  unfolding frees closes stand asked
+  freed-stays t = stays-task s t closing (inr refl) w
+
+  queues-stays : (c : SetUp) (t r : ℕ) → w ≢ t → Stays s (queues c t r g s) w
+  unfolding queues stand asked
+  queues-stays c t r d h = let E = same-task s (queues c t r g s) w (task-off s t (standingAs (Waiting (lockOf (kind c r) r))) w d) in (E .stood, E .wants)
+
+  calls-stays : Stays s (calls g s) w
+  unfolding calls stand asked
+  calls-stays = stays-task s (nextAt s g) (standingAs Active) (inl (omega arith)) w
+
+passes-stays : (s : State) (g w : ℕ) → Stays s (passes g s) w
+unfolding passes
+passes-stays s g w = stays-then s (calls g s) _ w (calls-stays s g w) (opens-stays (calls g s) g w (nextAt s g) (asked s (nextAt s g)))
+
+-- ---- the events
+module _ (c : SetUp) (t : ℕ) (s : State) (w : ℕ) where
+  arrive-stays : Stays s (arriveEvent c t s) w
+  unfolding arriveEvent arrives stand asked
+  arrive-stays = stays-task s t (arriving (s .clock) (s .clock + period c t)) (inl (omega arith)) w
+
+  finish-stays : Stays s (finishEvent c t s) w
+  unfolding finishEvent leaves stand asked
+  finish-stays = stays-task s t departing (inl (omega arith)) w
+
+  module _ (r : ℕ) where
+    abbrev g : ℕ
+    g = groupOf c r
+
+    request-stays : w ≢ t → Stays s (requestEvent c t r s) w
+    unfolding leaves stand asked
+    request-stays d = request-by c t r s (λ x. Stays s x w) (λ _. opens-stays s g w t r) (λ _ _ _. queues-stays s g w c t r d) (λ _ _ _. queues-stays s g w c t r d)
+
+    complete-stays : Stays s (completeEvent c t r s) w
+    unfolding softens givesWay arrives frees closes stand asked
+    complete-stays =
+        let f = frees g (closes t s) in
+        let freed = freed-stays s g w t in
+        complete-by c t r s (λ x. Stays s x w) (λ _. freed)
+        (λ _ _ _. freed) (λ _ _ _. stays-then s f (passes g f) w freed (passes-stays f g w))
+        (λ _ _ _. freed) (λ _ _ _. stays-then s f (passes g (givesWay c t f)) w freed (passes-stays (givesWay c t f) g w))
+
+pub step-stays : (s : State) (e : Event) → Sound s → judge s e ≡ 0 → (w : ℕ) → spinning ≤ stand s w → spinning ≤ stand (step s e .state) w → Same s (step s e .state) w
+step-stays s e Q ok w waits =
+    let s₁ = charged (stepOf s e) s in
+    let c = s .setup in
+    let t = e .task in
+    let r = e .resource in
+    let same = same-of s e Q ok in
+    let then : (s′ : State) → Stays s₁ s′ w → Stays s s′ w = λ s′. stays-then s s₁ s′ w (λ _. (same w .stood, same w .wants)) in
+    step-by s e Q ok (λ x. Stays s x w)
+    (λ _. then _ (arrive-stays c t s₁ w))
+    (λ _. then _ (finish-stays c t s₁ w))
+    (λ k. then _ (request-stays c t s₁ w r (λ d. omega (arith, asks-of s e Q ok k .acts .act, same t .stood, ap (stand s) d))))
+    (λ _. then _ (complete-stays c t s₁ w r))
+    (λ _. then s₁ (λ _. (refl, refl)))
