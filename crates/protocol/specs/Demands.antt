@@ -97,9 +97,9 @@ unfoldable pub completions : State → List Event → ℕ → ℕ
 completions s [] g = 0
 completions s (e ∷ es) g = (if handsOver s e g then 1 else 0) + completions (step s e .state) es g
 
--- e asks, in s, for a short resource at group g while no short request is open, and is accepted: it finds k jobs before it, fewer
--- than m; and after any further events with n ≤ k completions of outermost requests there, exactly k - n are before it: it holds
--- where k - n is 0, and waits until then for what it asked
+-- e asks, in s, for a short resource while no short request is open, and is accepted: it finds `found` jobs before it, fewer than
+-- m; and after any further events, as many completions of outermost requests there as there were leave n of the `found` before it:
+-- it holds where n is 0, so after exactly `found` completions, and until then waits for what it asked
 pub record ShortQueue (s : State) (e : Event) (m : ℕ) : Type 0 where
   pub found : ℕ
   pub few : found < m
