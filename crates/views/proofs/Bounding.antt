@@ -1,0 +1,23 @@
+-- What `isBounded` says of the parts of a state. Assumes nothing.
+use Prim.Native.Nat.{ℕ, _<_, _≤_}
+use mathlib.Core.Path.{_≡_}
+use mathlib.Core.Bool.{true}
+use borrow.Author.Tests.{leb-true}
+use Rattle.search.specs.Below.{allBelow}
+use Rattle.search.proofs.Tests.{and-iff, allBelow-at}
+use Rattle.input.specs.Limits.{mostTasks, mostResources}
+use Rattle.protocol.specs.Words.{mostRequests, task}
+use Rattle.protocol.specs.declared.State.{State}
+use Rattle.views.specs.Bounds.{taskBounded, isBounded}
+
+module _ (s : State) (h : isBounded s ≡ true) where
+  pub resources-bounded : s .setup .resources ≤ mostResources
+  unfolding isBounded
+  resources-bounded = leb-true _ _ ((simp and-iff at h) .0 .0)
+
+  pub tasks-bounded : allBelow mostTasks (λ t. taskBounded (task s t)) ≡ true
+  unfolding isBounded
+  tasks-bounded = (simp and-iff at h) .0 .1
+
+  pub depth-bounded : (t : ℕ) → t < mostTasks → task s t .depth ≤ mostRequests
+  depth-bounded t l = leb-true _ _ ((simp and-iff at (allBelow-at mostTasks (λ t. taskBounded (task s t)) tasks-bounded t l)) .1)

@@ -1,0 +1,65 @@
+-- The loop's invariant: `ok` says that the tasks passed are within their bounds. Assumes nothing.
+use Prim.Native.Nat.{_≤_, _-_}
+use mathlib.Core.Path.{_≡_}
+use native.Mathlib.Omega.{arith}
+use native.Mathlib.Numerals.{add-one}
+use lib.ListN.{getD}
+use borrow.Author.Needs.{needs}
+use Rattle.search.specs.Below.{allBelow}
+use Rattle.input.specs.Limits.{mostTasks}
+use Rattle.protocol.specs.Words.{noTask}
+use Rattle.views.specs.Bounds.{taskBounded}
+use Rattle.views.proofs.Reading.{task-read}
+use Rattle.views.proofs.ranks.are_tasks_bounded.Statement.{statement}
+use Rattle.views.proofs.ranks.are_tasks_bounded.Tie as tie
+
+abbrev Inv-loop : tie.InvT-loop
+Inv-loop tasks ok₀ t₀ ok t = (t ≤ mostTasks) × (ok ≡ allBelow t (λ t. taskBounded (getD tasks t noTask)))
+
+abbrev μ-loop : tie.MeasureT-loop
+μ-loop tasks ok₀ t₀ ok t = mostTasks - t
+
+loop-holds : tie.Need-loop-holds Inv-loop μ-loop
+unfolding allBelow
+loop-holds c = search needs
+
+mul-task : tie.Need-mul-task Inv-loop μ-loop
+mul-task c = search needs
+
+array-copy-out-task : tie.Need-array-copy-out-task Inv-loop μ-loop
+array-copy-out-task c = search needs
+
+is-task-bounded-requires : tie.Need-is-task-bounded-requires Inv-loop μ-loop
+is-task-bounded-requires c κs = search needs
+
+add-t : tie.Need-add-t Inv-loop μ-loop
+add-t c = search needs
+
+loop-less : tie.Need-loop-less Inv-loop μ-loop
+loop-less c = search needs
+
+loop-again : tie.Need-loop-again Inv-loop μ-loop
+unfolding allBelow
+loop-again c =
+    let a = c .before .before .before .loop in
+    (search needs, rw (add-one, a .inv .1, c .is-task-bounded .ensures, task-read (c .before .before .before .before .args .t1) (a .t) (search needs)))
+
+returns : tie.Need-returns Inv-loop μ-loop
+returns c =
+    let e : c .before .loop .t ≡ mostTasks = omega arith in
+    rw e at (c .before .loop .inv .1)
+
+pub are-tasks-bounded-spec : {M : Type 1} → statement M
+are-tasks-bounded-spec =
+    tie.close
+    (tie.spec
+    Inv-loop
+    μ-loop
+    loop-holds
+    mul-task
+    array-copy-out-task
+    is-task-bounded-requires
+    add-t
+    loop-less
+    loop-again
+    returns)
