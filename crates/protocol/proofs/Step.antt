@@ -69,11 +69,11 @@ unhindered false false true false g n e x y z = (refl, refl, refl)
 unhindered false false false f true n e x y z = absurd (y (sym e))
 unhindered false false false f false n e x y z = absurd (y (sym e))
 
--- ---- what an accepted event's rows say
 -- s′ is sound, with the set-up of s
 abbrev Keeps : State → State → Type 0
 Keeps s s′ = Sound s′ × (s′ .setup ≡ s .setup)
 
+-- ---- what an accepted event's rows say
 module _ (s : State) (e : Event) (Q : Sound s) (ok : judge s e ≡ 0) where
   abbrev c : SetUp
   c = s .setup
@@ -248,6 +248,11 @@ module _ (s : State) (e : Event) (Q : Sound s) (ok : judge s e ≡ 0) where
 pub refused : (s : State) (e : Event) → judge s e ≢ 0 → step s e .state ≡ s
 unfolding step
 refused s e h = rw (ne-eqb _ _ h)
+
+-- an answer other than 0 hands back the very state
+pub refused-keeps : (s : State) (e : Event) → step s e .answer ≢ 0 → step s e .state ≡ s
+unfolding step
+refused-keeps s e h = elim (ℕ-discrete (judge s e) 0) [ yes ok ↦ absurd (h (rw (eq-eqb _ _ ok))) | no d ↦ refused s e d ]
 
 step-keeps : (s : State) (e : Event) → Sound s → Keeps s (step s e .state)
 step-keeps s e Q = elim (ℕ-discrete (judge s e) 0) [ yes ok ↦ accepted-sound s e Q ok | no d ↦ subst (Keeps s) (sym (refused s e d)) (Q, refl) ]

@@ -110,6 +110,15 @@ one a = a ∷ []
 abbrev pub printed : SetUp
 printed = given 2 65530 (100 ∷ 200 ∷ 50 ∷ []) (one 0) [] []
 
+-- the first four steps of the printed case
+abbrev fourSteps : List Line
+fourSteps =
+    line 1 0 0 65530 0 (two 0 nobody) (two 0 nobody)
+    ∷ line 1 1 0 65532 0 (two 0 1) (two 0 1)
+    ∷ line 3 1 0 65535 0 (two 0 1) (two 0 1)
+    ∷ line 1 2 0 2 0 (two 0 2) (two 0 1)
+    ∷ []
+
 abbrev cases : List Case
 cases =
     -- P1 to P8: the printed case
@@ -117,11 +126,8 @@ cases =
       setup = printed;
       groups = one 0;
       lines =
-          line 1 0 0 65530 0 (two 0 nobody) (two 0 nobody)
-          ∷ line 1 1 0 65532 0 (two 0 1) (two 0 1)
-          ∷ line 3 1 0 65535 0 (two 0 1) (two 0 1)
-          ∷ line 1 2 0 2 0 (two 0 2) (two 0 1)
-          ∷ line 3 0 0 4 0 (two 0 2) (two 0 1)
+          fourSteps
+          ++ line 3 0 0 4 0 (two 0 2) (two 0 1)
           ∷ line 4 1 0 9 0 (two 0 2) (two 0 2)
           ∷ line 2 1 0 9 19 (two 0 2) (two 0 2)
           ∷ line 2 2 0 12 0 (two 0 1) (two 0 1)
@@ -133,11 +139,8 @@ cases =
       setup = printed;
       groups = one 0;
       lines =
-          line 1 0 0 65530 0 (two 0 nobody) (two 0 nobody)
-          ∷ line 1 1 0 65532 0 (two 0 1) (two 0 1)
-          ∷ line 3 1 0 65535 0 (two 0 1) (two 0 1)
-          ∷ line 1 2 0 2 0 (two 0 2) (two 0 1)
-          ∷ line 2 0 0 4 0 (two 2 1) (two 2 1)
+          fourSteps
+          ++ line 2 0 0 4 0 (two 2 1) (two 2 1)
           ∷ [];
       totals = (10 ∷ 0 ∷ 0 ∷ 0 ∷ 0 ∷ []) ∷ (8 ∷ 0 ∷ 0 ∷ 0 ∷ 0 ∷ []) ∷ (0 ∷ 0 ∷ 2 ∷ 0 ∷ 0 ∷ []) ∷ [];
     }
