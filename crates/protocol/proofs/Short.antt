@@ -10,8 +10,7 @@ use native.Mathlib.Decide.{ℕ-discrete}
 use lib.ListN.{length}
 use borrow.Author.Tests.{eq-eqb, ne-eqb, not-true}
 use Rattle.search.specs.Words.{if_then_else_, _is_}
-use Rattle.search.specs.Below.{anyBelow}
-use Rattle.search.proofs.Tests.{tests, never}
+use Rattle.search.proofs.Tests.{tests, never, anyBelow-same}
 use Rattle.queue.specs.Tidy.{Tidy}
 use Rattle.input.specs.Limits.{mostTasks, mostResources, short}
 use Rattle.input.specs.Words.{kind}
@@ -38,11 +37,6 @@ use Rattle.protocol.proofs.Steps.{kind-none, queued, request-steady}
 use Rattle.protocol.proofs.Places.{request-before, inner-before, outer-before, outer-up, same-before}
 use Rattle.protocol.proofs.Step.{row11, row12, grouped, steady-of, same-of, asks-of, ends-of, step-by, refused, step-sound}
 use Rattle.protocol.proofs.Stays.{Same, step-stays}
-
-any-same : (n : ℕ) (f g : ℕ → Bool) → ((i : ℕ) → i < n → f i ≡ g i) → anyBelow n f ≡ anyBelow n g
-unfolding anyBelow
-any-same zero f g h = refl
-any-same (suc n) f g h = rw (any-same n f g (λ i l. h i (omega arith)), h n (omega arith))
 
 -- ---- an accepted event
 module _ (s : State) (e : Event) (Q : Sound s) (ok : judge s e ≡ 0) where
@@ -80,7 +74,7 @@ module _ (s : State) (e : Event) (Q : Sound s) (ok : judge s e ≡ 0) where
       let E = closes-view c s (S .sized) (S .blank) (groupOf c r) g-low t (A .left) t-in (sym (same .deep) ∙ A .some) (S .locks .tasks t .opened .few) in
       let E₁ = closes-view c s₁ (S₁ .sized) (S₁ .blank) (groupOf c r) g-low t (A .left) t-in (A .some) (S₁ .locks .tasks t .opened .few) in
       let deep : depth (closes t s₁) t ≡ depth (closes t s) t = omega (arith, E .deep, E₁ .deep, same .deep) in
-      rw deep (any-same _ _ _ (λ i l. ap (λ (x : ℕ). kind c x is kind c r) (E₁ .old i (omega arith) ∙ same .requested i ∙ sym (E .old i l))))
+      rw deep (anyBelow-same _ _ _ (λ i l. ap (λ (x : ℕ). kind c x is kind c r) (E₁ .old i (omega arith) ∙ same .requested i ∙ sym (E .old i l))))
 
   -- what the test says of an accepted completion
   hands-is : e .kind ≡ completion → (g : ℕ) (b : Bool) → handsOver s e g ≡ b → (groupOf c r is g && not (openOfKind c (closes t s₁) t r)) ≡ b

@@ -119,11 +119,16 @@ any-none zero ok f = refl
 any-none (suc n) ok f = rw (any-none n ok (λ i l. f i (omega arith)), f n (omega arith))
 
 pub anyBelow-none-iff : (n : ℕ) (ok : ℕ → Bool) → (anyBelow n ok ≡ false) ↔ ((i : ℕ) → i < n → ok i ≡ false)
-anyBelow-none-iff n ok = ((λ h i l. at (ok i) refl (λ e. never h (any-of n ok i l e))), any-none n ok)
+anyBelow-none-iff n ok = ((λ h i l. at (ok i) (λ e. never h (any-of n ok i l e))), any-none n ok)
   where
-    at : (b : Bool) → b ≡ b → (b ≡ true → ⊥) → b ≡ false
-    at true _ f = absurd (f refl)
-    at false _ f = refl
+    at : (b : Bool) → (b ≡ true → ⊥) → b ≡ false
+    at true f = absurd (f refl)
+    at false f = refl
+
+pub anyBelow-same : (n : ℕ) (ok ok′ : ℕ → Bool) → ((i : ℕ) → i < n → ok i ≡ ok′ i) → anyBelow n ok ≡ anyBelow n ok′
+unfolding anyBelow
+anyBelow-same zero ok ok′ same = refl
+anyBelow-same (suc n) ok ok′ same = rw (anyBelow-same n ok ok′ (λ i l. same i (omega arith)), same n (omega arith))
 
 pub ruleset tests =
     (ltb-iff, ltb-false-iff, leb-iff, leb-false-iff, eqb-iff, eqb-false-iff, not-eqb-iff, and-iff, or-none-iff, implies-iff, not-false-iff, allBelow-iff, anyBelow-iff, anyBelow-none-iff)
