@@ -1,0 +1,56 @@
+-- The loop's invariant: `ok` says that the request stands at none of the places passed but its own. Assumes nothing.
+use Prim.Native.Nat.{_≤_, _-_}
+use mathlib.Core.Path.{_≡_}
+use native.Mathlib.Omega.{arith}
+use native.Mathlib.Numerals.{add-one}
+use lib.ListN.{getD}
+use borrow.Author.Needs.{needs}
+use Rattle.search.specs.Words.{_is_, _implies_}
+use Rattle.search.specs.Below.{allBelow}
+use Rattle.protocol.specs.Words.{nobody}
+use Rattle.soundness.proofs.requests.is_once.Statement.{statement}
+use Rattle.soundness.proofs.requests.is_once.Tie as tie
+
+abbrev Inv-loop : tie.InvT-loop
+Inv-loop requests depth i r ok₀ k₀ ok k = (k ≤ depth) × (ok ≡ allBelow k (λ k. getD requests i nobody is getD requests k nobody implies i is k))
+
+abbrev μ-loop : tie.MeasureT-loop
+μ-loop requests depth i r ok₀ k₀ ok k = depth - k
+
+request-at-requires : tie.Need-request-at-requires Inv-loop μ-loop
+request-at-requires c κs = search needs
+
+loop-holds : tie.Need-loop-holds Inv-loop μ-loop
+unfolding allBelow
+loop-holds c = search needs
+
+request-at-requires-2 : tie.Need-request-at-requires-2 Inv-loop μ-loop
+request-at-requires-2 c κs = search needs
+
+add-k : tie.Need-add-k Inv-loop μ-loop
+add-k c = search needs
+
+loop-less : tie.Need-loop-less Inv-loop μ-loop
+loop-less c = search needs
+
+loop-again : tie.Need-loop-again Inv-loop μ-loop
+unfolding allBelow
+loop-again c = (search needs, rw (add-one, c .before .before .loop .inv .1, c .request-at2 .ensures, c .before .before .before .request-at .ensures))
+
+returns : tie.Need-returns Inv-loop μ-loop
+returns c = let e : c .before .loop .k ≡ c .before .before .before .args .depth = omega arith in
+    rw e at (c .before .loop .inv .1)
+
+pub is-once-spec : {M : Type 1} → statement M
+is-once-spec =
+    tie.close
+    (tie.spec
+    Inv-loop
+    μ-loop
+    request-at-requires
+    loop-holds
+    request-at-requires-2
+    add-k
+    loop-less
+    loop-again
+    returns)

@@ -1,0 +1,26 @@
+use borrow.Author.Needs.{needs}
+use Rattle.protocol.specs.Words.{stand, depth, request}
+use Rattle.protocol.specs.Sound.{emptySound}
+use Rattle.soundness.proofs.tasks.empty_holds.Statement.{statement}
+use Rattle.soundness.proofs.tasks.empty_holds.Tie as tie
+
+task-at-requires : tie.Need-task-at-requires
+task-at-requires c κs = search needs
+
+stand-of-requires : tie.Need-stand-of-requires
+stand-of-requires c κs = search needs
+
+sum-of-requires : tie.Need-sum-of-requires
+sum-of-requires c κs = search needs
+
+requests-end-requires : tie.Need-requests-end-requires
+requests-end-requires c κs = search needs
+
+returns : tie.Need-returns
+unfolding emptySound stand depth request
+returns c = rw (c .before .requests-end .ensures, c .before .before .sum-of .ensures, c .before .before .before .before .before .stand-of .ensures, c .before .before .before .before .before .before .before .before .task-at .ensures)
+
+pub empty-holds-spec : {M : Type 1} → statement M
+empty-holds-spec =
+    tie.close
+    (tie.spec task-at-requires stand-of-requires sum-of-requires requests-end-requires returns)

@@ -1,0 +1,23 @@
+-- The clauses of the sound state in three parts, in the order in which the code tests them.
+use mathlib.Core.Bool.{Bool, _&&_}
+use Rattle.search.specs.Words.{_is_}
+use Rattle.search.specs.Below.{allBelow}
+use Rattle.placement.specs.PlacedTest.{isPlaced}
+use Rattle.input.specs.Limits.{mostTasks, mostResources}
+use Rattle.input.specs.Refusals.{setUpRefusal}
+use Rattle.input.specs.Clearing.{isClear}
+use Rattle.protocol.specs.Ranks.{jobs}
+use Rattle.protocol.specs.Sound.{clockSound, timesSound, requestsSound, waitingSound, groupSound}
+use Rattle.protocol.specs.declared.State.{State}
+
+-- the set-up, the clock and the times
+abbrev pub frameSound : State → Bool
+frameSound s = setUpRefusal (s .setup) is 0 && isClear (s .setup) && clockSound (s .setup) s && allBelow mostTasks (timesSound (s .setup) s)
+
+-- the open requests, the waiting jobs and the groups
+abbrev pub locksSound : State → Bool
+locksSound s = allBelow mostTasks (requestsSound (s .setup) s) && allBelow mostTasks (waitingSound (s .setup) s) && allBelow mostResources (groupSound (s .setup) s)
+
+-- links and placements
+abbrev pub placementSound : State → Bool
+placementSound s = s .processors .count is s .setup .processors && isPlaced (s .processors) (jobs (s .setup) s)

@@ -1,0 +1,115 @@
+// Each group's holder and queue.
+use crate::tables::asked_of;
+use crate::tables::number_at;
+use crate::tables::request_at;
+use crate::tables::stand_at;
+use crate::tables::stands_of;
+use input::SetUp;
+use protocol::State;
+use protocol::Task;
+use queue::Queue;
+ghost use mathlib.Core.Path.{_≡_};
+ghost use mathlib.Core.Bool.{true, _&&_};
+ghost use Prim.Native.Nat.{_≤_};
+ghost use lib.Dec.{leb};
+ghost use lib.ListN.{getD};
+ghost use Rattle.search.specs.Words.{_is_};
+ghost use Rattle.search.specs.Below.{allBelow, anyBelow};
+ghost use Rattle.search.specs.Table.{table};
+ghost use Rattle.queue.specs.Limits.{capacity};
+ghost use Rattle.queue.specs.Waiting.{waiter, placeOf};
+ghost use Rattle.input.specs.Limits.{mostTasks, mostResources};
+ghost use Rattle.input.specs.Naming.{names};
+ghost use Rattle.protocol.specs.Words.{mostRequests, nobody, absent, spinning, standingNo, askedOf, noTask};
+ghost use Rattle.protocol.specs.Sound.{requestsSound, groupSound};
+
+// Some open request is in group `g`.
+fn some_in(
+    groups: [u8; SetUp::RESOURCES],
+    requests: [u8; Task::REQUESTS],
+    depth: usize,
+    g: u8,
+) -> bool
+    requires { ⌜ depth ≤ mostRequests ⌝ }
+    ensures { λ r. ⌜ r ≡ anyBelow depth (λ i. getD groups (getD requests i nobody) nobody is g) ⌝ }
+{
+    let mut some = false;
+    for i in 0..depth {
+        some = some | (number_at(groups, request_at(requests, i)) == g);
+    }
+    some
+}
+
+// All that wait in the queue wait, and for what is in group `g`.
+fn all_wait_here(
+    stands: [u8; SetUp::TASKS],
+    asked: [u8; SetUp::TASKS],
+    groups: [u8; SetUp::RESOURCES],
+    queue: Queue,
+    g: u8,
+) -> bool
+    requires { ⌜ queue .len ≤ capacity ⌝ }
+    ensures { λ r. ⌜ r ≡ allBelow (queue .len) (λ i. leb spinning (getD stands (waiter queue i) absent) && getD groups (getD asked (waiter queue i) nobody) nobody is g) ⌝ }
+{
+    let mut ok = true;
+    for i in 0..queue.len {
+        let t = queue.waiter(i);
+        ok = ok
+            & ((Task::SPINNING <= stand_at(stands, t))
+                & (number_at(groups, number_at(asked, t)) == g));
+    }
+    ok
+}
+
+// Each place of the queue is the first of its task.
+fn all_in_place(queue: Queue) -> bool
+    requires { ⌜ queue .len ≤ capacity ⌝ }
+    ensures { λ r. ⌜ r ≡ allBelow (queue .len) (λ i. placeOf queue (waiter queue i) is i) ⌝ }
+{
+    let mut ok = true;
+    for i in 0..queue.len {
+        ok = ok & (queue.place_of(queue.waiter(i)) == i);
+    }
+    ok
+}
+
+fn group_holds(
+    state: State,
+    named: [u8; SetUp::RESOURCES],
+    stands: [u8; SetUp::TASKS],
+    asked: [u8; SetUp::TASKS],
+    g: u8,
+) -> bool
+    requires { ⌜ (named ≡ names (state .setup)) × (stands ≡ table (λ t. standingNo (getD (state .tasks) t noTask .standing)) mostTasks) × (asked ≡ table (λ t. askedOf (getD (state .tasks) t noTask .standing)) mostTasks) × (allBelow mostTasks (requestsSound (state .setup) state) ≡ true) ⌝ }
+    ensures { λ r. ⌜ r ≡ groupSound (state .setup) state g ⌝ }
+{
+    let all = state.groups;
+    let tasks = state.tasks;
+    let group = views::group_at(all, g as usize);
+    let holder = group.holder;
+    let queue = group.queue;
+    let task = views::task_at(tasks, holder);
+    let requests = task.requests;
+    if queue.is_tidy() {
+        let held = (holder == Task::NOTHING) | some_in(named, requests, task.depth, g);
+        let waits = all_wait_here(stands, asked, named, queue, g);
+        let placed = all_in_place(queue);
+        held & waits & placed & ((holder != Task::NOTHING) | (queue.len == 0))
+    } else {
+        false
+    }
+}
+
+pub fn all_groups(state: State, named: [u8; SetUp::RESOURCES]) -> bool
+    requires { ⌜ (named ≡ names (state .setup)) × (allBelow mostTasks (requestsSound (state .setup) state) ≡ true) ⌝ }
+    ensures { λ r. ⌜ r ≡ allBelow mostResources (groupSound (state .setup) state) ⌝ }
+{
+    let tasks = state.tasks;
+    let stands = stands_of(tasks);
+    let asked = asked_of(tasks);
+    let mut ok = true;
+    for g in 0..SetUp::RESOURCE_END {
+        ok = ok & group_holds(state, named, stands, asked, g);
+    }
+    ok
+}

@@ -1,0 +1,100 @@
+// Times, totals and empty places of each task.
+use crate::tables::request_at;
+use input::SetUp;
+use protocol::State;
+use protocol::Task;
+ghost use mathlib.Core.Path.{_≡_};
+ghost use Prim.Native.Nat.{_-_};
+ghost use lib.Dec.{leb};
+ghost use lib.ListN.{getD};
+ghost use Rattle.search.specs.Words.{_is_, _implies_};
+ghost use Rattle.search.specs.Below.{allBelow};
+ghost use Rattle.input.specs.Limits.{mostTasks};
+ghost use Rattle.protocol.specs.Words.{mostRequests, nobody, sum};
+ghost use Rattle.protocol.specs.Sound.{timesSound, emptySound};
+
+fn sum_of(totals: [u32; Task::TOTALS]) -> u64
+    ensures { λ r. ⌜ r ≡ sum totals ⌝ }
+{
+    let early = (totals[0] as u64) + (totals[1] as u64);
+    early + (totals[2] as u64) + (totals[3] as u64) + (totals[4] as u64)
+}
+
+fn elapsed(start: u32, clock: u32) -> u64
+    ensures { λ r. ⌜ r ≡ clock - start ⌝ }
+{
+    if start <= clock {
+        (clock - start) as u64
+    } else {
+        0
+    }
+}
+
+fn period_at(periods: [u16; SetUp::TASKS], t: u8) -> u16
+    ensures { λ r. ⌜ r ≡ getD periods t 0 ⌝ }
+{
+    let i = t as usize;
+    if i < SetUp::TASKS { periods[i] } else { 0 }
+}
+
+fn times_hold(state: State, t: u8) -> bool
+    ensures { λ r. ⌜ r ≡ timesSound (state .setup) state t ⌝ }
+{
+    let setup = state.setup;
+    let periods = setup.periods;
+    let tasks = state.tasks;
+    let task = views::task_at(tasks, t);
+    let standing = task.standing;
+    let totals = task.totals;
+    let stand = views::stand_of(standing);
+    let due = (task.last as u64) + (period_at(periods, t) as u64);
+    let between = !task.arrived | ((setup.start <= task.last) & (task.last <= state.clock));
+    let dated = (stand == Task::ABSENT) | (task.arrived & (task.deadline == due));
+    let undated = (stand != Task::ABSENT) | (task.deadline == 0);
+    between & dated & undated & (sum_of(totals) <= elapsed(setup.start, state.clock))
+}
+
+pub fn all_times(state: State) -> bool
+    ensures { λ r. ⌜ r ≡ allBelow mostTasks (timesSound (state .setup) state) ⌝ }
+{
+    let mut ok = true;
+    for t in 0..SetUp::TASK_END {
+        ok = ok & times_hold(state, t);
+    }
+    ok
+}
+
+// From `depth` on no request stands.
+fn requests_end(requests: [u8; Task::REQUESTS], depth: usize) -> bool
+    ensures { λ r. ⌜ r ≡ allBelow mostRequests (λ i. leb depth i implies getD requests i nobody is nobody) ⌝ }
+{
+    let mut ok = true;
+    for i in 0..Task::REQUESTS {
+        ok = ok & (!(depth <= i) | (request_at(requests, i) == Task::NOTHING));
+    }
+    ok
+}
+
+fn empty_holds(state: State, t: u8) -> bool
+    ensures { λ r. ⌜ r ≡ emptySound (state .setup) state t ⌝ }
+{
+    let setup = state.setup;
+    let tasks = state.tasks;
+    let task = views::task_at(tasks, t);
+    let standing = task.standing;
+    let requests = task.requests;
+    let totals = task.totals;
+    let idle = (views::stand_of(standing) == Task::ABSENT) & !task.arrived;
+    let blank = idle & (task.last == 0) & (sum_of(totals) == 0);
+    requests_end(requests, task.depth) & (!(setup.tasks <= t as usize) | blank)
+}
+
+pub fn all_empty(state: State) -> bool
+    ensures { λ r. ⌜ r ≡ allBelow mostTasks (emptySound (state .setup) state) ⌝ }
+{
+    let mut ok = true;
+    for t in 0..SetUp::TASK_END {
+        ok = ok & empty_holds(state, t);
+    }
+    ok
+}
