@@ -1,0 +1,98 @@
+-- What the code of an accepted event needs holds of a sound state that accepts it. Assumes nothing.
+use Prim.Native.Nat.{ℕ, _+_, _*_, _-_, _<_, _≤_, _%_}
+use mathlib.Core.Path.{_≡_, refl, ap, _∙_}
+use mathlib.Core.Bool.{true, false, not}
+use native.Mathlib.Omega.{arith}
+use native.Mathlib.Decide.{ℕ-discrete, decLt}
+use Rattle.search.proofs.Tests.{tests}
+use Rattle.search.proofs.Refusals.{none-iff, NoneApplies}
+use Rattle.input.specs.Limits.{mostTasks, mostResources}
+use Rattle.input.specs.Naming.{names, groupOf}
+use Rattle.input.specs.Kinds.{request as asking, completion, passing, fieldsOf}
+use Rattle.input.specs.Words.{period}
+use Rattle.input.specs.declared.Event.{Event}
+use Rattle.input.proofs.Accepted.{and-none-iff}
+use Rattle.protocol.specs.Words.{lastClock, task, stand, absent, deadline, depth, len, sum}
+use Rattle.protocol.specs.Sound.{sound}
+use Rattle.protocol.specs.Refusals.{stepOf, eventRows, judge}
+use Rattle.protocol.specs.Locks.{nextAt}
+use Rattle.protocol.specs.Events.{charged, step}
+use Rattle.protocol.specs.declared.State.{State}
+use Rattle.protocol.proofs.Statements.{Sound}
+use Rattle.protocol.proofs.Dates.{charged-times}
+use Rattle.protocol.proofs.Step.{event-kinds, row11, row12, grouped, steady-of, asks-of, ends-of}
+use Rattle.views.specs.Bounds.{isBounded}
+use Rattle.locking.specs.Acting.{CanPass, CanAct}
+use Rattle.locking.proofs.Bounded.{within-bounds}
+
+pub unsound-judged : (s : State) (e : Event) → sound s ≡ false → judge s e ≡ 9
+unfolding judge eventRows
+unsound-judged s e h = rw h
+
+pub unsound-stepped : (s : State) (e : Event) → sound s ≡ false → step s e ≡ record { answer = 9; state = s }
+unfolding step
+unsound-stepped s e h = rw (unsound-judged s e h)
+
+-- ---- a sound state that accepts an event
+module _ (s : State) (e : Event) (Q : Sound s) (ok : judge s e ≡ 0) where
+  abbrev s₁ : State
+  s₁ = charged (stepOf s e) s
+
+  no-row : NoneApplies (eventRows s e)
+  unfolding judge eventRows
+  no-row = none-iff (eventRows s e) refl .0 ok
+
+  -- the clock and the totals have room for the event's ticks
+  pub room : s .clock + stepOf s e ≤ lastClock
+  unfolding eventRows
+  room = simp tests at (no-row 6 (omega arith))
+
+  pub charges : (t : ℕ) → t < mostTasks → sum (task s t .totals) ≤ s .clock
+  charges t l = omega (arith, Q .times .tasks t .totals)
+
+  charged-bounded : ((t : ℕ) → period (s .setup) t < 65536) → isBounded s₁ ≡ true
+  unfolding charged depth deadline
+  charged-bounded short =
+      let L = steady-of s e Q ok in
+      let T = charged-times s (stepOf s e) (Q .steady .sized) (λ u. Q .steady .locks .tasks u .inside) room (Q .times) in
+      within-bounds s₁ (record {
+        resources = grouped s e Q ok .few-resources;
+        due = λ t l. elim (ℕ-discrete (stand s₁ t) absent) [
+          | yes x ↦ omega (arith, T .tasks t .idle x)
+          | no x ↦ let y = T .tasks t .pending x in omega (arith, y .1, T .tasks t .arrived (y .0) .1, T .clock, short t)
+        ];
+        deep = λ t l. L .locks .tasks t .opened .few;
+        line = λ g l. L .blank .queues g .fits;
+      })
+
+  inside : e .task < mostTasks
+  unfolding eventRows fieldsOf
+  inside = elim (decLt (e .kind) passing) [
+    | yes x ↦ omega (arith, row11 s e Q ok (omega (arith, event-kinds s e Q ok)), grouped s e Q ok .few-tasks)
+    | no x ↦
+        let k : e .kind ≡ passing = omega (arith, event-kinds s e Q ok) in
+        omega (arith, (simp (tests, and-none-iff) at (no-row 4 (omega arith))) .0 (ap (λ (n : ℕ). not (fieldsOf n .task)) k))
+  ]
+
+  g-in : (asking ≤ e .kind) × (e .kind ≤ completion) → groupOf (s .setup) (e .resource) < mostResources
+  g-in k = let G = grouped s e Q ok in omega (arith, G .low (e .resource) (row12 s e Q ok k), G .few-resources)
+
+  can-pass : (g : ℕ) → 0 < len s₁ g → CanPass s₁ g
+  can-pass g l =
+      let L = steady-of s e Q ok .locks in
+      let u = nextAt s₁ g in
+      let waits = L .groups g .queued 0 l .0 in
+      let t-in = L .tasks u .inside (λ q. absurd (omega (arith, q))) in
+      record { inside = omega (arith, t-in, grouped s e Q ok .few-tasks); room = L .tasks u .waits waits .room }
+
+  pub can-act : ((t : ℕ) → period (s .setup) t < 65536) → CanAct s₁ (names (s .setup)) e
+  unfolding charged
+  can-act short =
+      let G = grouped s e Q ok in
+      record {
+        bounded = charged-bounded short;
+        naming = refl;
+        inside = inside;
+        asks = λ k. record { bounded = charged-bounded short; inside = inside; placed = g-in (omega arith); room = asks-of s e Q ok k .room };
+        completes = λ k. record { bounded = charged-bounded short; inside = inside; placed = g-in (omega arith); some = (let E = ends-of s e Q ok k in omega (arith, E .some)); next = can-pass (groupOf (s .setup) (e .resource)) };
+      }

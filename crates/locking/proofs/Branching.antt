@@ -1,0 +1,42 @@
+-- The branches of a request and of a completion, as equations. Assumes nothing.
+use Prim.Native.Nat.{ℕ}
+use mathlib.Core.Path.{_≡_}
+use mathlib.Core.Bool.{true, false, _||_}
+use borrow.Author.Tests.{eq-eqb, ne-eqb}
+use Rattle.search.specs.Words.{if_then_else_, _is_}
+use Rattle.input.specs.Limits.{short}
+use Rattle.input.specs.Words.{kind}
+use Rattle.input.specs.Naming.{groupOf}
+use Rattle.input.specs.declared.SetUp.{SetUp}
+use Rattle.protocol.specs.Words.{nobody, holder, len}
+use Rattle.protocol.specs.Locks.{openOfKind, opens, queues, closes, frees, nextAt, passes}
+use Rattle.protocol.specs.Events.{arrives, leaves, softens, givesWay, requestEvent, completeEvent}
+use Rattle.protocol.specs.declared.State.{State}
+
+module _ (c : SetUp) (t r : ℕ) (s : State) where
+  pub request-open : (openOfKind c s t r || holder s (groupOf c r) is nobody) ≡ true → requestEvent c t r s ≡ opens t r (groupOf c r) s
+  unfolding requestEvent
+  request-open h = rw h
+
+  pub request-spin : (openOfKind c s t r || holder s (groupOf c r) is nobody) ≡ false → kind c r ≡ short → requestEvent c t r s ≡ queues c t r (groupOf c r) s
+  unfolding requestEvent
+  request-spin h k = rw (h, eq-eqb (kind c r) short k)
+
+  pub request-wait : (openOfKind c s t r || holder s (groupOf c r) is nobody) ≡ false → (kind c r ≡ short → ⊥) → requestEvent c t r s ≡ leaves c t (queues c t r (groupOf c r) s)
+  unfolding requestEvent
+  request-wait h k = rw (h, ne-eqb (kind c r) short k)
+
+  pub complete-inner : openOfKind c (closes t s) t r ≡ true → completeEvent c t r s ≡ closes t s
+  unfolding completeEvent
+  complete-inner h = rw h
+
+  pub complete-short : openOfKind c (closes t s) t r ≡ false → kind c r ≡ short
+      → completeEvent c t r s ≡ softens c t (if len s (groupOf c r) is 0 then frees (groupOf c r) (closes t s) else passes (groupOf c r) (frees (groupOf c r) (closes t s)))
+  unfolding completeEvent
+  complete-short h k = rw (h, eq-eqb (kind c r) short k)
+
+  pub complete-long : openOfKind c (closes t s) t r ≡ false → (kind c r ≡ short → ⊥)
+      → completeEvent c t r s ≡ (if len s (groupOf c r) is 0 then givesWay c t (frees (groupOf c r) (closes t s))
+      else arrives c (nextAt s (groupOf c r)) (passes (groupOf c r) (givesWay c t (frees (groupOf c r) (closes t s)))))
+  unfolding completeEvent
+  complete-long h k = rw (h, ne-eqb (kind c r) short k)

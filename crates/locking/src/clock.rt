@@ -1,0 +1,18 @@
+// The clock: the step from the last accepted tick, and the exact clock after it.
+ghost use mathlib.Core.Path.{_≡_};
+ghost use Prim.Native.Nat.{_+_};
+ghost use Rattle.locking.specs.Steps.{ticksTo};
+
+// The new tick minus the last accepted one, modulo 65,536.
+pub fn step_to(clock: u32, tick: u16) -> u16
+    ensures { λ r. ⌜ r ≡ ticksTo clock tick ⌝ }
+{
+    let last = (clock % 65536) as u16;
+    std::num::wrapping_sub_u16(tick, last)
+}
+
+pub fn clock_after(clock: u32, tick: u16) -> u64
+    ensures { λ r. ⌜ r ≡ clock + ticksTo clock tick ⌝ }
+{
+    (clock as u64) + (step_to(clock, tick) as u64)
+}

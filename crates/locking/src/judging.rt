@@ -1,0 +1,166 @@
+// The refusals 10 to 25 of an event on a sound state.
+use crate::clock::clock_after;
+use crate::clock::step_to;
+use input::Event;
+use input::SetUp;
+use protocol::Situation;
+use protocol::State;
+use protocol::Task;
+ghost use mathlib.Core.Path.{_≡_};
+ghost use mathlib.Core.Bool.{true};
+ghost use Prim.Native.Nat.{_-_};
+ghost use lib.ListN.{getD};
+ghost use Rattle.search.specs.Words.{_is_};
+ghost use Rattle.search.specs.Below.{anyBelow};
+ghost use Rattle.input.specs.Naming.{names};
+ghost use Rattle.protocol.specs.Words.{nobody};
+ghost use Rattle.protocol.specs.Situations.{hindrance};
+ghost use Rattle.protocol.specs.Sound.{sound};
+ghost use Rattle.protocol.specs.Refusals.{judge};
+ghost use Rattle.locking.specs.Steps.{isApart, fieldRows};
+
+// The furthest step that goes forward, plus one; and the clock's end.
+const BACKWARD: u16 = 32768;
+
+const LAST_CLOCK: u64 = 4294967295;
+
+pub fn request_at(requests: [u8; Task::REQUESTS], i: usize) -> u8
+    ensures { λ r. ⌜ r ≡ getD requests i nobody ⌝ }
+{
+    if i < Task::REQUESTS {
+        requests[i]
+    } else {
+        Task::NOTHING
+    }
+}
+
+pub fn name_at(named: [u8; SetUp::RESOURCES], r: u8) -> u8
+    ensures { λ g. ⌜ g ≡ getD named r nobody ⌝ }
+{
+    let i = r as usize;
+    if i < SetUp::RESOURCES {
+        named[i]
+    } else {
+        Task::NOTHING
+    }
+}
+
+pub fn hindrance_of(situation: Situation) -> u8
+    ensures { λ r. ⌜ r ≡ hindrance situation ⌝ }
+{
+    match situation {
+        Situation::NoJob => 18,
+        Situation::Running => 0,
+        Situation::Spinning => 20,
+        Situation::LinkedOnly => 19,
+        Situation::Ready => 19,
+        Situation::Suspended => 19,
+    }
+}
+
+// A request for `r` is open.
+fn is_open(requests: [u8; Task::REQUESTS], depth: usize, r: u8) -> bool
+    ensures { λ o. ⌜ o ≡ anyBelow depth (λ i. getD requests i nobody is r) ⌝ }
+{
+    let mut some = false;
+    for i in 0..depth {
+        some = some | (request_at(requests, i) == r);
+    }
+    some
+}
+
+// Long while a short is open, or same kind open in another group.
+fn is_misplaced(
+    kinds: [u8; SetUp::RESOURCES],
+    named: [u8; SetUp::RESOURCES],
+    requests: [u8; Task::REQUESTS],
+    depth: usize,
+    r: u8,
+) -> bool
+    ensures { λ o. ⌜ o ≡ anyBelow depth (λ i. isApart kinds named r (getD requests i nobody)) ⌝ }
+{
+    let kind = views::kind_at(kinds, r);
+    let group = name_at(named, r);
+    let mut some = false;
+    for i in 0..depth {
+        let q = request_at(requests, i);
+        let other = views::kind_at(kinds, q);
+        let inside = (kind == SetUp::LONG) & (other == SetUp::SHORT);
+        some = some | (inside | ((other == kind) & (name_at(named, q) != group)));
+    }
+    some
+}
+
+fn newest(requests: [u8; Task::REQUESTS], depth: usize) -> u8
+    ensures { λ r. ⌜ r ≡ getD requests (depth - 1) nobody ⌝ }
+{
+    if 0 < depth {
+        request_at(requests, depth - 1)
+    } else {
+        request_at(requests, 0)
+    }
+}
+
+pub fn period_at(periods: [u16; SetUp::TASKS], t: u8) -> u16
+    ensures { λ r. ⌜ r ≡ getD periods t 0 ⌝ }
+{
+    let i = t as usize;
+    if i < SetUp::TASKS { periods[i] } else { 0 }
+}
+
+// The rows 10 to 13, which look at the event's fields alone; `later` where none applies.
+fn field_rows(tasks: usize, resources: usize, e: Event, later: u8) -> u8
+    ensures { λ r. ⌜ r ≡ fieldRows tasks resources e later ⌝ }
+{
+    let kind = e.kind;
+    let t = e.task;
+    let r = e.resource;
+    let fields = input::fields_of(kind);
+    let unused = (!fields.task & (t != 0)) | (!fields.resource & (r != 0));
+    let r13 = search::row(13, unused, later);
+    let r12 = search::row(12, fields.resource & (resources <= r as usize), r13);
+    let r11 = search::row(11, fields.task & (tasks <= t as usize), r12);
+    let known = (Event::ARRIVAL <= kind) & (kind <= Event::PASSING);
+    search::row(10, !known, r11)
+}
+
+// The first of 10 to 25 that applies, or 0; the state is sound, and `named` are its groups.
+pub fn judge_sound(state: State, named: [u8; SetUp::RESOURCES], e: Event) -> u8
+    requires { ⌜ (sound state ≡ true) × (named ≡ names (state .setup)) ⌝ }
+    ensures { λ r. ⌜ r ≡ judge state e ⌝ }
+{
+    let setup = state.setup;
+    let kinds = setup.kinds;
+    let periods = setup.periods;
+    let tasks = state.tasks;
+    let p = state.processors;
+    let kind = e.kind;
+    let t = e.task;
+    let r = e.resource;
+    let task = views::task_at(tasks, t);
+    let standing = task.standing;
+    let requests = task.requests;
+    let depth = task.depth;
+    let stand = views::stand_of(standing);
+    let hinders = hindrance_of(views::situation_of(stand, p, t));
+    let now = clock_after(state.clock, e.tick);
+    let due = (task.last as u64) + (period_at(periods, t) as u64);
+    let comes = kind == Event::ARRIVAL;
+    let asks = kind == Event::REQUEST;
+    let acts = (Event::FINISH <= kind) & (kind <= Event::COMPLETION);
+    let not_newest = (depth == 0) | (newest(requests, depth) != r);
+    let r25 = search::row(25, (kind == Event::COMPLETION) & not_newest, 0);
+    let r24 = search::row(24, asks & (depth == Task::REQUESTS), r25);
+    let misplaced = is_misplaced(kinds, named, requests, depth, r);
+    let r23 = search::row(23, asks & misplaced, r24);
+    let r22 = search::row(22, asks & is_open(requests, depth, r), r23);
+    let r21 = search::row(21, (kind == Event::FINISH) & (depth != 0), r22);
+    let r20 = search::row(20, acts & (hinders == 20), r21);
+    let r19 = search::row(19, acts & (hinders == 19), r20);
+    let r18 = search::row(18, acts & (hinders == 18), r19);
+    let r17 = search::row(17, comes & task.arrived & (now < due), r18);
+    let r16 = search::row(16, comes & (stand != Task::ABSENT), r17);
+    let r15 = search::row(15, LAST_CLOCK < now, r16);
+    let r14 = search::row(14, BACKWARD <= step_to(state.clock, e.tick), r15);
+    field_rows(setup.tasks, setup.resources, e, r14)
+}
