@@ -3,9 +3,14 @@ mod clock;
 mod edits;
 mod events;
 mod judging;
+mod playing;
 mod sessions;
 
+pub use playing::play;
 pub use sessions::begin;
 pub use sessions::judge;
+pub use sessions::linked_to;
+pub use sessions::running_on;
 pub use sessions::situation;
 pub use sessions::step;
+pub use sessions::totals_of;

@@ -14,6 +14,8 @@ ghost use mathlib.Core.Path.{_≡_};
 ghost use mathlib.Core.Bool.{true};
 ghost use Rattle.input.specs.Naming.{names};
 ghost use Rattle.protocol.specs.Sound.{sound};
+ghost use Rattle.processors.specs.Words.{link, runs};
+ghost use Rattle.protocol.specs.Words.{task as taskRecord};
 ghost use Rattle.protocol.specs.Situations.{situation as situationRule};
 ghost use Rattle.protocol.specs.Refusals.{judge as judgeRule};
 ghost use Rattle.protocol.specs.Events.{step as stepRule, noSetUp, fresh as freshState, begin as beginRule};
@@ -27,6 +29,30 @@ pub fn situation(state: State, t: u8) -> Situation
     let task = views::task_at(tasks, t);
     let standing = task.standing;
     views::situation_of(views::stand_of(standing), p, t)
+}
+
+// The totals of task `t`: running, spinning, linked only, ready, suspended.
+pub fn totals_of(state: State, t: u8) -> [u32; Task::TOTALS]
+    ensures { λ r. ⌜ r ≡ taskRecord state t .totals ⌝ }
+{
+    let tasks = state.tasks;
+    let task = views::task_at(tasks, t);
+    task.totals
+}
+
+// The task that processor `k` is linked to, and the task that runs there; 255 for none.
+pub fn linked_to(state: State, k: usize) -> u8
+    ensures { λ r. ⌜ r ≡ link (state .processors) k ⌝ }
+{
+    let p = state.processors;
+    processors::link_at(p, k)
+}
+
+pub fn running_on(state: State, k: usize) -> u8
+    ensures { λ r. ⌜ r ≡ runs (state .processors) k ⌝ }
+{
+    let p = state.processors;
+    processors::runs_at(p, k)
 }
 
 fn no_set_up() -> SetUp
@@ -90,7 +116,7 @@ pub fn judge(state: State, e: Event) -> u8
 }
 
 // A step of a sound state, whose groups are `named`.
-fn step_sound(state: State, named: [u8; SetUp::RESOURCES], e: Event) -> Reply
+pub fn step_sound(state: State, named: [u8; SetUp::RESOURCES], e: Event) -> Reply
     requires { ⌜ (sound state ≡ true) × (named ≡ names (state .setup)) ⌝ }
     ensures { λ r. ⌜ r ≡ stepRule state e ⌝ }
 {

@@ -1,0 +1,70 @@
+-- A part of events, event by event: what stays, and what one more does. Assumes nothing.
+use Prim.Native.Nat.{ℕ, zero, suc, _+_, _*_, _<_, _≤_}
+use mathlib.Core.Path.{_≡_, refl, sym, ap, _∙_}
+use mathlib.Core.Bool.{Bool, true, false}
+use mathlib.Core.List.{List, [], _∷_}
+use native.Mathlib.Numerals.{add-one}
+use native.Mathlib.Omega.{arith}
+use lib.ListN.{length}
+use Rattle.input.specs.Layout.{eventIn}
+use Rattle.input.specs.declared.Event.{Event}
+use Rattle.protocol.specs.Sound.{sound}
+use Rattle.protocol.specs.Events.{step, run}
+use Rattle.protocol.specs.declared.State.{State}
+use Rattle.protocol.specs.declared.Reply.{Reply}
+use Rattle.protocol.proofs.Statements.{Sound}
+use Rattle.protocol.proofs.Reflect.{Shaped, sound-of-test, test-of-sound}
+use Rattle.protocol.proofs.Step.{step-sound, run-setup}
+use Rattle.locking.specs.Playing.{lineSize, lineOf, written, playable, playedTo, replyTo, writtenTo}
+use Rattle.locking.proofs.Accepted.{unsound-stepped}
+use Rattle.locking.proofs.Writing.{written-long}
+
+step-setup : (s : State) (e : Event) → Sound s → step s e .state .setup ≡ s .setup
+unfolding run
+step-setup s e Q = run-setup s (e ∷ []) Q
+
+module _ (s : State) (part out : List ℕ) where
+  -- ---- the state
+  sound-along : Sound s → (n : ℕ) → Sound (playedTo s part out n) × (playedTo s part out n .setup ≡ s .setup)
+  unfolding playedTo
+  sound-along Q zero = (Q, refl)
+  sound-along Q (suc n) =
+      let before = sound-along Q n in
+      (step-sound _ (eventIn part n) (before .0), step-setup _ (eventIn part n) (before .0) ∙ before .1)
+
+  -- each event is refused
+  unsound-along : sound s ≡ false → (n : ℕ) → playedTo s part out n ≡ s
+  unfolding playedTo
+  unsound-along h zero = refl
+  unsound-along h (suc n) =
+      let before = unsound-along h n in
+      ap (λ (r : Reply). r .state) (unsound-stepped _ (eventIn part n) (ap sound before ∙ h)) ∙ before
+
+  -- one sound test at the start does for all
+  pub kept-along : Shaped s → (n : ℕ) → (sound (playedTo s part out n) ≡ sound s) × (playedTo s part out n .setup ≡ s .setup)
+  kept-along Z n = go (sound s) refl
+    where
+      go : (b : Bool) → sound s ≡ b → (sound (playedTo s part out n) ≡ sound s) × (playedTo s part out n .setup ≡ s .setup)
+      go true h = let K = sound-along (sound-of-test s Z h) n in (test-of-sound _ (K .0) ∙ sym h, K .1)
+      go false h = let K = unsound-along h n in (ap sound K, ap (λ (x : State). x .setup) K)
+
+  -- ---- the buffer
+  pub long-along : (n : ℕ) → length (writtenTo s part out n) ≡ length out
+  unfolding writtenTo
+  long-along zero = refl
+  long-along (suc n) = written-long (writtenTo s part out n) _ _ ∙ long-along n
+
+  -- there is room for the line of a playable event
+  pub room-along : (n : ℕ) → n < playable part out → lineSize * n + lineSize ≤ length (writtenTo s part out n)
+  unfolding playable
+  room-along n l = omega (arith, long-along n)
+
+  -- ---- one event more
+  pub played-turn : (n : ℕ) (r : Reply) → r ≡ replyTo s part out n → r .state ≡ playedTo s part out (n + 1)
+  unfolding playedTo
+  played-turn n r h = rw (add-one n) (ap (λ (x : Reply). x .state) h)
+
+  pub buffer-turn : (n : ℕ) (r : Reply) (line : List ℕ) → r ≡ replyTo s part out n → line ≡ lineOf (r .answer) (r .state .processors)
+      → written (writtenTo s part out n) (lineSize * n) line ≡ writtenTo s part out (n + 1)
+  unfolding writtenTo
+  buffer-turn n r line h l = rw (add-one n) (ap (written (writtenTo s part out n) (lineSize * n)) (l ∙ ap (λ (x : Reply). lineOf (x .answer) (x .state .processors)) h))

@@ -1,0 +1,73 @@
+// The events of a whole part, with one sound test.
+use crate::sessions::step_sound;
+use input::Event;
+use input::SetUp;
+use processors::Processors;
+use protocol::Reply;
+use protocol::State;
+ghost use mathlib.Core.Path.{_≡_};
+ghost use Prim.Native.Nat.{_+_, _≤_};
+ghost use lib.ListN.{length};
+ghost use Rattle.input.specs.Naming.{names};
+ghost use Rattle.protocol.specs.Sound.{sound};
+ghost use Rattle.protocol.specs.Events.{step as stepRule};
+ghost use Rattle.locking.specs.Playing.{lineSize, lineOf, written, played};
+
+// An event's answer, and per processor the linked and the running task.
+const LINE_SIZE: usize = 17;
+
+fn line_of(answer: u8, p: Processors) -> [u8; LINE_SIZE]
+    ensures { λ r. ⌜ r ≡ lineOf answer p ⌝ }
+{
+    let mut line = [answer; LINE_SIZE];
+    for k in 0..Processors::LIMIT {
+        line[2 * k + 1] = processors::link_at(p, k);
+        line[2 * k + 2] = processors::runs_at(p, k);
+    }
+    line
+}
+
+// Writes a line into `out` from `at` on, and gives the place behind it.
+fn put_line(out: &mut [u8], at: usize, line: [u8; LINE_SIZE]) -> usize
+    requires { ⌜ at + lineSize ≤ length (now out) ⌝ }
+    ensures { λ r. ⌜ (r ≡ at + lineSize) × (now (out .exit) ≡ written (now (out .entry)) at line) ⌝ }
+{
+    for i in 0..LINE_SIZE {
+        out[at + i] = line[i];
+    }
+    at + LINE_SIZE
+}
+
+// A step of a state that is known to be sound, or known not to be.
+fn step_known(state: State, named: [u8; SetUp::RESOURCES], known: bool, e: Event) -> Reply
+    requires { ⌜ (sound state ≡ known) × (named ≡ names (state .setup)) ⌝ }
+    ensures { λ r. ⌜ r ≡ stepRule state e ⌝ }
+{
+    if known {
+        step_sound(state, named, e)
+    } else {
+        Reply { answer: 9, state }
+    }
+}
+
+// Plays as many events as `part` has and `out` has room for; the state after them.
+pub fn play(state: State, part: &[u8], out: &mut [u8]) -> State
+    ensures { λ r. ⌜ (r, now (out .exit)) ≡ played state (now (part .entry)) (now (out .entry)) ⌝ }
+{
+    let setup = state.setup;
+    let named = input::names_of(setup);
+    let is_sound = soundness::is_sound(state);
+    let events = input::event_count(part);
+    let room = out.len() / LINE_SIZE;
+    let count = if events < room { events } else { room };
+    let mut at = 0;
+    let mut now_state = state;
+    for i in 0..count {
+        let reply = step_known(now_state, named, is_sound, input::event_at(part, i));
+        let next = reply.state;
+        let p = next.processors;
+        at = put_line(out, at, line_of(reply.answer, p));
+        now_state = next;
+    }
+    now_state
+}
