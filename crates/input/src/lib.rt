@@ -10,9 +10,11 @@ pub use clearing::is_clear;
 pub use events::fields_of;
 pub use grouping::names_of;
 pub use judging::judge;
+pub use reading::byte_at;
 pub use reading::event_at;
 pub use reading::event_count;
 pub use reading::set_up_from;
+pub use reading::word_of;
 
 // The counts, the starting clock, each task's period, each resource's kind, and the nesting pairs.
 // Places past a count are not read.
@@ -44,8 +46,16 @@ impl SetUp {
     pub const SHORT: u8 = 0;
 
     pub const LONG: u8 = 1;
-    // How many bytes a set-up takes in a block.
-    pub const SIZE: usize = 232;
+    // Where each part of a set-up begins in a block's payload, after the four counts, and how many bytes it takes in all.
+    pub const START_AT: usize = 4;
+
+    pub const PERIODS_AT: usize = 8;
+
+    pub const KINDS_AT: usize = SetUp::PERIODS_AT + 2 * SetUp::TASKS;
+
+    pub const PAIRS_AT: usize = SetUp::KINDS_AT + SetUp::RESOURCES;
+
+    pub const SIZE: usize = SetUp::PAIRS_AT + 2 * SetUp::PAIRS;
 }
 
 pub struct Event {

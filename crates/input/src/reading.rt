@@ -5,23 +5,15 @@ ghost use mathlib.Core.Path.{_≡_};
 ghost use Prim.Native.Nat.{_+_, _*_, _<_};
 ghost use Rattle.input.specs.Layout.{byte, startIn, periodsIn, kindsIn, sideIn, setUpIn, eventIn, eventCount};
 
-// Where each part of a set-up begins.
-const START_AT: usize = 4;
-
-const PERIODS_AT: usize = 8;
-
-const KINDS_AT: usize = PERIODS_AT + 2 * SetUp::TASKS;
-
-const PAIRS_AT: usize = KINDS_AT + SetUp::RESOURCES;
-
-fn byte_at(part: &[u8], i: usize) -> u8
+// The byte at place `i`.
+pub fn byte_at(part: &[u8], i: usize) -> u8
     ensures { λ r. ⌜ r ≡ byte (now (part .entry)) i ⌝ }
 {
     if i < part.len() { part[i] } else { 0 }
 }
 
 // Two bytes, low first.
-fn word_of(low: u8, high: u8) -> u16
+pub fn word_of(low: u8, high: u8) -> u16
     ensures { λ r. ⌜ r ≡ low + 256 * high ⌝ }
 {
     (low as u16) + 256 * (high as u16)
@@ -30,8 +22,14 @@ fn word_of(low: u8, high: u8) -> u16
 fn start_in(part: &[u8]) -> u32
     ensures { λ r. ⌜ r ≡ startIn (now (part .entry)) ⌝ }
 {
-    let low = word_of(byte_at(part, START_AT), byte_at(part, START_AT + 1));
-    let high = word_of(byte_at(part, START_AT + 2), byte_at(part, START_AT + 3));
+    let low = word_of(
+        byte_at(part, SetUp::START_AT),
+        byte_at(part, SetUp::START_AT + 1),
+    );
+    let high = word_of(
+        byte_at(part, SetUp::START_AT + 2),
+        byte_at(part, SetUp::START_AT + 3),
+    );
     (low as u32) + 65536 * (high as u32)
 }
 
@@ -40,7 +38,7 @@ fn periods_in(part: &[u8]) -> [u16; SetUp::TASKS]
 {
     let mut periods = [0u16; SetUp::TASKS];
     for t in 0..SetUp::TASKS {
-        let at = PERIODS_AT + 2 * t;
+        let at = SetUp::PERIODS_AT + 2 * t;
         periods[t] = word_of(byte_at(part, at), byte_at(part, at + 1));
     }
     periods
@@ -51,7 +49,7 @@ fn kinds_in(part: &[u8]) -> [u8; SetUp::RESOURCES]
 {
     let mut kinds = [0u8; SetUp::RESOURCES];
     for r in 0..SetUp::RESOURCES {
-        kinds[r] = byte_at(part, KINDS_AT + r);
+        kinds[r] = byte_at(part, SetUp::KINDS_AT + r);
     }
     kinds
 }
@@ -63,7 +61,7 @@ fn side_in(part: &[u8], side: usize) -> [u8; SetUp::PAIRS]
 {
     let mut resources = [0u8; SetUp::PAIRS];
     for i in 0..SetUp::PAIRS {
-        resources[i] = byte_at(part, PAIRS_AT + 2 * i + side);
+        resources[i] = byte_at(part, SetUp::PAIRS_AT + 2 * i + side);
     }
     resources
 }

@@ -1,0 +1,3 @@
+pub mod Check
+pub mod Sizes
+pub mod Verdicts

@@ -1,0 +1,78 @@
+-- Document 01, 'Blocks' and 'Numbers handed back': the refusals 30 to 35 of a block, in the list's order, and its used part.
+use Prim.Native.Nat.{ℕ, _+_, _-_, _*_, _%_}
+use mathlib.Core.Bool.{Bool, not, _&&_, _||_}
+use mathlib.Core.List.{List, []}
+use lib.Dec.{ltb}
+use lib.ListN.{length, take, drop}
+use Rattle.search.specs.Words.{if_then_else_, _is_, _isn't_}
+use Rattle.search.specs.Below.{allBelow}
+use Rattle.search.specs.Rows.{Row, _when_, _otherwise_, firstOf}
+use Rattle.input.specs.Layout.{byte, word, periodsAt, kindsAt, pairsAt, setUpSize, eventSize}
+use Rattle.input.specs.Refusals.{within}
+use Rattle.blocks.specs.Sizes.{kindAt, countAt, payloadAt, checkAt, blockSize, lastIndex, numbers, setUpBlock, eventBlock, mostEvents}
+use Rattle.blocks.specs.Check.{isChecked}
+use Rattle.blocks.specs.declared.Verdict.{Verdict}
+use Rattle.blocks.specs.declared.Verdict.the-variants.{Used, Refused}
+
+module _ (block : List ℕ) where
+  abbrev pub payload : ℕ → ℕ
+  payload i = byte block (payloadAt + i)
+
+  -- the payload's bytes from one place to before another are 0
+  unfoldable pub isBlank : ℕ → ℕ → Bool
+  isBlank from to = allBelow (to - from) (λ i. payload (from + i) is 0)
+
+  -- the end of the payload, as a place in it
+  abbrev pub payloadSize : ℕ
+  payloadSize = checkAt - payloadAt
+
+  -- in a set-up block, table places past a count are filler, and all behind the tables
+  unfoldable pub isSetUpFilled : Bool
+  isSetUpFilled =
+      isBlank (periodsAt + 2 * payload 1) kindsAt
+      && isBlank (kindsAt + payload 2) pairsAt
+      && isBlank (pairsAt + 2 * payload 3) setUpSize
+      && isBlank setUpSize payloadSize
+
+  abbrev pub count : ℕ
+  count = byte block countAt
+
+  -- in an event block, each record's fourth byte is reserve, and all behind the records is filler
+  unfoldable pub isEventFilled : Bool
+  isEventFilled = allBelow count (λ i. payload (eventSize * i + 3) is 0) && isBlank (eventSize * count) payloadSize
+
+  module _ (index : ℕ) where
+    -- the first block is the set-up, all others are events
+    abbrev pub isFirst : Bool
+    isFirst = index is 0
+
+    unfoldable pub blockRows : List Row
+    blockRows =
+        30 when length block isn't blockSize otherwise
+        31 when not (isChecked block) otherwise
+        32 when (word block 0 isn't index % numbers || ltb lastIndex index) otherwise
+        33 when byte block kindAt isn't (if isFirst then setUpBlock else eventBlock) otherwise
+        34 when not (within 1 count (if isFirst then 1 else mostEvents)) otherwise
+        35 when not (if isFirst then isSetUpFilled else isEventFilled) otherwise
+        []
+
+    abbrev pub usedSize : ℕ
+    usedSize = if isFirst then setUpSize else eventSize * count
+
+    -- accepted, with the length of the used part, or refused, with its number
+    unfoldable pub verdict : Verdict
+    verdict = if firstOf blockRows is 0 then Used usedSize else Refused (firstOf blockRows)
+
+  -- the used part that a verdict speaks of
+  abbrev pub usedPart : Verdict → List ℕ
+  usedPart (Used n) = take n (drop payloadAt block)
+  usedPart (Refused number) = []
+
+-- a verdict's number of the list, and the length of its part
+abbrev pub numberOf : Verdict → ℕ
+numberOf (Used n) = 0
+numberOf (Refused number) = number
+
+abbrev pub lengthOf : Verdict → ℕ
+lengthOf (Used n) = n
+lengthOf (Refused number) = 0

@@ -1,0 +1,53 @@
+// The check of a block: two sums over its words.
+use crate::Block;
+use crate::Check;
+ghost use mathlib.Core.Path.{_≡_};
+ghost use Prim.Native.Nat.{_+_, _*_, _≤_, _<_};
+ghost use Rattle.input.specs.Layout.{word};
+ghost use Rattle.blocks.specs.Check.{modulus, adding, checkOf, isChecked};
+
+const WORDS: usize = 254;
+
+const MODULUS: u32 = 65535;
+
+fn add(c: Check, w: u16) -> Check
+    requires { ⌜ (c .first < modulus) × (c .second < modulus) ⌝ }
+    ensures { λ r. ⌜ r ≡ adding c w ⌝ }
+{
+    let first = (c.first + (w as u32)) % MODULUS;
+    Check {
+        first,
+        second: (c.second + first) % MODULUS,
+    }
+}
+
+pub fn word_at(block: &[u8], i: usize) -> u16
+    requires { ⌜ i < 512 ⌝ }
+    ensures { λ r. ⌜ r ≡ word (now (block .entry)) i ⌝ }
+{
+    input::word_of(input::byte_at(block, i), input::byte_at(block, i + 1))
+}
+
+// The check that the words before it give.
+pub fn check_of(block: &[u8]) -> Check
+    ensures { λ r. ⌜ r ≡ checkOf (now (block .entry)) ⌝ }
+{
+    let mut c = Check {
+        first: 0,
+        second: 0,
+    };
+    for i in 0..WORDS {
+        let next = add(c, word_at(block, 2 * i));
+        c = next;
+    }
+    c
+}
+
+pub fn is_checked(block: &[u8]) -> bool
+    ensures { λ r. ⌜ r ≡ isChecked (now (block .entry)) ⌝ }
+{
+    let c = check_of(block);
+    let first = word_at(block, Block::CHECK_AT) as u32;
+    let second = word_at(block, Block::CHECK_AT + 2) as u32;
+    (first == c.first) & (second == c.second)
+}
