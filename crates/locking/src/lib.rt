@@ -6,6 +6,7 @@ mod judging;
 mod playing;
 mod sessions;
 
+pub use playing::line_of;
 pub use playing::play;
 pub use sessions::begin;
 pub use sessions::judge;

@@ -16,7 +16,7 @@ ghost use Rattle.locking.specs.Playing.{lineSize, lineOf, written, playe
 // An event's answer, and per processor the linked and the running task.
 const LINE_SIZE: usize = 17;
 
-fn line_of(answer: u8, p: Processors) -> [u8; LINE_SIZE]
+pub fn line_of(answer: u8, p: Processors) -> [u8; LINE_SIZE]
     ensures { λ r. ⌜ r ≡ lineOf answer p ⌝ }
 {
     let mut line = [answer; LINE_SIZE];

@@ -1,0 +1,58 @@
+// The lines of a state: the sound test, and then a line that needs no state.
+use crate::Line;
+use crate::numbers::places_line;
+use crate::numbers::refused;
+use crate::numbers::totals_line;
+use crate::writing::put_number;
+use crate::writing::put_text;
+use protocol::State;
+ghost use mathlib.Core.Path.{_≡_};
+ghost use Rattle.lines.specs.Lines.{firstLine, eventLine, taskLine};
+
+// The first line: the counts of processors and tasks, and start.
+pub fn first_line(state: State, out: &mut [u8]) -> Line
+    ensures { λ r. ⌜ (r, now (out .exit)) ≡ firstLine (now (out .entry)) state ⌝ }
+{
+    if !soundness::is_sound(state) {
+        return refused(9);
+    }
+    if out.len() < Line::LIMIT {
+        return refused(36);
+    }
+    let setup = state.setup;
+    let a = put_text(out, 0, b"processors ");
+    let b = put_number(out, a, setup.processors as u64);
+    let c = put_text(out, b, b" tasks ");
+    let d = put_number(out, c, setup.tasks as u64);
+    let e = put_text(out, d, b" start ");
+    let f = put_number(out, e, setup.start as u64);
+    let len = put_text(out, f, b"\n");
+    Line { number: 0, len }
+}
+
+// The line of an event that gave this answer and left this state.
+pub fn event_line(state: State, number: u64, answer: u8, out: &mut [u8]) -> Line
+    ensures { λ r. ⌜ (r, now (out .exit)) ≡ eventLine (now (out .entry)) state number answer ⌝ }
+{
+    if !soundness::is_sound(state) {
+        return refused(9);
+    }
+    let setup = state.setup;
+    let p = state.processors;
+    let line = locking::line_of(answer, p);
+    places_line(number, setup.processors, &line, out)
+}
+
+// The totals of a task.
+pub fn task_line(state: State, t: u8, out: &mut [u8]) -> Line
+    ensures { λ r. ⌜ (r, now (out .exit)) ≡ taskLine (now (out .entry)) state t ⌝ }
+{
+    if !soundness::is_sound(state) {
+        return refused(9);
+    }
+    let setup = state.setup;
+    if setup.tasks <= t as usize {
+        return refused(11);
+    }
+    totals_line(t, locking::totals_of(state, t), out)
+}
