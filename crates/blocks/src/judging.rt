@@ -12,7 +12,7 @@ ghost use lib.Dec.{ltb};
 ghost use Rattle.search.specs.Words.{if_then_else_, _is_, _isn't_};
 ghost use Rattle.search.specs.Rows.{firstOf};
 ghost use Rattle.blocks.specs.Sizes.{lastIndex, numbers};
-ghost use Rattle.blocks.specs.Verdicts.{isBlank, isSetUpFilled, isEventFilled, blockRows, verdict, usedPart};
+ghost use Rattle.blocks.specs.Verdicts.{isBlank, isSetUpFilled, isEventFilled, blockRows, verdict, usedPart, numberOf};
 
 // The payload's bytes from `from` to before `to` are 0.
 fn is_blank(block: &[u8], from: usize, to: usize) -> bool
@@ -93,6 +93,16 @@ pub fn judge(block: &[u8], index: u64) -> Verdict
         Verdict::Used(SetUp::SIZE)
     } else {
         Verdict::Used(Event::SIZE * (input::byte_at(block, Block::COUNT_AT) as usize))
+    }
+}
+
+// A verdict's number of the list: 0 where the block is accepted.
+pub fn number_of(v: Verdict) -> u8
+    ensures { λ r. ⌜ r ≡ numberOf v ⌝ }
+{
+    match v {
+        Verdict::Used(_) => 0,
+        Verdict::Refused(number) => number,
     }
 }
 

@@ -4,6 +4,7 @@ mod judging;
 
 pub use checking::check_of;
 pub use judging::judge;
+pub use judging::number_of;
 pub use judging::used_part;
 
 // A block, of which only the limits are held here: its bytes are lent.

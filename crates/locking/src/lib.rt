@@ -9,6 +9,7 @@ mod sessions;
 pub use playing::line_of;
 pub use playing::play;
 pub use sessions::begin;
+pub use sessions::empty;
 pub use sessions::judge;
 pub use sessions::linked_to;
 pub use sessions::running_on;

@@ -89,6 +89,13 @@ fn fresh(setup: SetUp) -> State
     }
 }
 
+// The empty state: no processors.
+pub fn empty() -> State
+    ensures { λ r. ⌜ r ≡ freshState noSetUp ⌝ }
+{
+    fresh(no_set_up())
+}
+
 // The state that a set-up gives; a refused one gives an empty state.
 pub fn begin(setup: SetUp) -> Reply
     ensures { λ r. ⌜ r ≡ beginRule setup ⌝ }

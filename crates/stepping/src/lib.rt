@@ -1,13 +1,14 @@
-// Stepping through a block file: each block's page of lines, and the last page at the input's end.
+// Stepping through a block file: a page of lines for each block, and a last one at the input's end.
 mod pages;
+mod writing;
 
+use blocks::Block;
+use lines::Line;
 pub use pages::begin;
-pub use pages::last_page;
 pub use pages::next_page;
 use protocol::State;
 
-// What stands between two blocks: the index of the next block, the events so far, whether the output has ended, and the
-// state.
+// What stands between two blocks: the index of the next one, the events so far, whether the output has ended, the state.
 pub struct Session {
     pub index: u64,
     pub events: u64,
@@ -15,7 +16,7 @@ pub struct Session {
     pub state: State,
 }
 
-// A page of lines: the session after it, and its length; or, where the buffer is too short for a page, the refusal 36.
+// What is given back of a page: the session after it, its number from the list (36: the buffer is too short) and its length.
 pub struct Page {
     pub session: Session,
     pub number: u8,
@@ -23,6 +24,6 @@ pub struct Page {
 }
 
 impl Page {
-    // A page's buffer has so many bytes, or more: one line for each of the events of a block.
-    pub const LIMIT: usize = 84 * 96;
+    // A page's buffer has so many bytes, or more: a line for each event of a block.
+    pub const LIMIT: usize = Block::MOST_EVENTS as usize * Line::LIMIT;
 }

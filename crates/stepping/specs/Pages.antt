@@ -1,0 +1,88 @@
+-- Document 01, 'Printing': the page of lines that is printed of each block, and the last one, at the input's end.
+use Prim.Native.Nat.{ℕ, zero, suc, _+_, _*_, _%_, min}
+use mathlib.Core.Bool.{Bool, true, false}
+use mathlib.Core.List.{List, [], _++_}
+use lib.Dec.{ltb}
+use lib.ListN.{length}
+use Rattle.search.specs.Words.{if_then_else_, _is_}
+use Rattle.input.specs.Limits.{mostTasks}
+use Rattle.input.specs.Layout.{setUpIn, eventCount}
+use Rattle.protocol.specs.Words.{task}
+use Rattle.protocol.specs.Events.{begin, noSetUp, fresh}
+use Rattle.protocol.specs.declared.State.{State}
+use Rattle.protocol.specs.declared.Reply.{Reply}
+use Rattle.locking.specs.Playing.{lineOf, playedTo, replyTo, written}
+use Rattle.blocks.specs.Sizes.{mostEvents}
+use Rattle.blocks.specs.Verdicts.{verdict, usedPart}
+use Rattle.blocks.specs.declared.Verdict.{Verdict}
+use Rattle.blocks.specs.declared.Verdict.the-variants.{Used, Refused}
+use Rattle.lines.specs.Lines.{lineLimit, firstText, eventText, taskLineText, blockText, setUpText}
+use Rattle.stepping.specs.declared.Session.{Session}
+use Rattle.stepping.specs.declared.Page.{Page}
+
+-- how many numbers 64 bits hold
+abbrev pub wide : ℕ
+wide = 18446744073709551616
+
+-- the lines of the first n events of a part, numbered on from `events`
+unfoldable pub eventsText : State → List ℕ → ℕ → ℕ → List ℕ
+eventsText s part events zero = []
+eventsText s part events (suc n) =
+    eventsText s part events n
+    ++ eventText ((events + suc n) % wide) (s .setup .processors) (lineOf (replyTo s part n .answer) (replyTo s part n .state .processors))
+
+-- the lines of the first n tasks
+unfoldable pub tasksText : State → ℕ → List ℕ
+tasksText s zero = []
+tasksText s (suc n) = tasksText s n ++ taskLineText n (task s n .totals)
+
+-- before the first block
+unfoldable pub beginning : Session
+beginning = record { index = 0; events = 0; is_over = false; state = fresh noSetUp }
+
+-- a page as the session after it and its text
+module _ (x : Session) where
+  -- the output ends here
+  abbrev pub ended : Session
+  ended = record { index = x .index; events = x .events; is_over = true; state = x .state }
+
+  -- the first block gives a set-up: its first line, or its refusal
+  abbrev pub setUpPage : Reply → Session × List ℕ
+  setUpPage r =
+      if r .answer is 0 then
+      (record { index = 1; events = 0; is_over = false; state = r .state }, firstText (r .state .setup .processors) (r .state .setup .tasks) (r .state .setup .start))
+      else (ended, setUpText (r .answer))
+
+  -- every other block gives events: a line for each
+  abbrev pub eventPage : List ℕ → Session × List ℕ
+  eventPage part = (
+    record { index = x .index + 1; events = (x .events + eventCount part) % wide; is_over = false; state = playedTo (x .state) part (eventCount part) },
+    eventsText (x .state) part (x .events) (eventCount part),
+  )
+
+  -- a refused block ends the output
+  abbrev pub blockPage : List ℕ → Verdict → Session × List ℕ
+  blockPage block (Used n) =
+      if x .index is 0 then setUpPage (begin (setUpIn (usedPart block (Used n)))) else eventPage (usedPart block (Used n))
+  blockPage block (Refused number) = (ended, blockText (x .index) number)
+
+  -- the input's end: the totals of each task. At least one block is expected: without one, block 0 is not 512 bytes
+  abbrev pub lastPage : Session × List ℕ
+  lastPage = (ended, (if x .index is 0 then blockText 0 30 else tasksText (x .state) (min (x .state .setup .tasks) mostTasks)))
+
+  -- what is printed once `read` was read: a block, or nothing at the input's end
+  unfoldable pub nextPage : List ℕ → Session × List ℕ
+  nextPage read =
+      if x .is_over then (x, [])
+      else if length read is 0 then lastPage
+      else blockPage read (verdict read (x .index))
+
+-- a page's buffer has so many bytes, or more: a line for each event of a block
+abbrev pub pageLimit : ℕ
+pageLimit = mostEvents * lineLimit
+
+-- the page into a buffer; in one that is too short nothing is written, and nothing goes on
+unfoldable pub pageInto : Session → List ℕ → List ℕ → Page × List ℕ
+pageInto x read out =
+    if ltb (length out) pageLimit then (record { session = x; number = 36; len = 0 }, out)
+    else (record { session = nextPage x read .0; number = 0; len = length (nextPage x read .1) }, written out 0 (nextPage x read .1))

@@ -1,0 +1,114 @@
+"""Slips that look right: the model with one rule got wrong in each.
+
+A case that names a slip says at which event the slip's line first differs from
+the rule's, so that the case is known to tell the two apart.
+"""
+
+from model import SUSPENDED, Session
+
+
+def signed(value, bits):
+    value %= 1 << bits
+    return value - (1 << bits) if value >> (bits - 1) else value
+
+
+class Slip(Session):
+    def assert_sound(self):
+        pass                    # a slip leaves states that are not sound
+
+
+class SignedDeadlines(Slip):
+    """Compares 16-bit deadlines as signed numbers."""
+
+    def own_priority(self, job):
+        return (signed(self.tasks[job].deadline, 16), job)
+
+
+class SignedDifference(Slip):
+    """Compares 16-bit deadlines by the sign of their 16-bit difference."""
+
+    class Rank:
+        def __init__(self, deadline, job):
+            self.deadline, self.job = deadline, job
+
+        def __lt__(self, other):
+            difference = signed(self.deadline - other.deadline, 16)
+            return difference < 0 or (difference == 0 and self.job < other.job)
+
+    def own_priority(self, job):
+        return self.Rank(self.tasks[job].deadline, job)
+
+
+class NarrowDeadlines(Slip):
+    """Holds deadlines in the 32 bits of the clock."""
+
+    def own_priority(self, job):
+        return (self.tasks[job].deadline % (1 << 32), job)
+
+
+class PreemptsRunning(Slip):
+    """Preempts the lowest-priority running preemptable job, not the linked one."""
+
+    def arrive_or_resume(self, comer):
+        if None in self.linked:
+            super().arrive_or_resume(comer)
+            return
+        places = [k for k, job in enumerate(self.running) if not self.non_preemptable(job)]
+        if places:
+            k = max(places, key=lambda place: self.priority(self.running[place]))
+            if self.higher(comer, self.running[k]):
+                self.linked[k] = self.running[k] = comer
+
+
+class SuspendsFirst(Slip):
+    """Suspends a waiter before the holder inherits."""
+
+    def wait_suspended(self, t, resource):
+        self.tasks[t].asked = resource
+        self.tasks[t].standing = SUSPENDED
+        self.leave(t)
+        self.queue[self.group[resource]].append(t)
+
+
+class DropsInheritance(Slip):
+    """Drops the inheritance when a long lock passes to a new holder."""
+
+    def __init__(self, setup):
+        super().__init__(setup)
+        self.forgotten = set()
+
+    def next_holds(self, name):
+        first = super().next_holds(name)
+        self.forgotten = (self.forgotten - {first}) | set(self.queue[name])
+        return first
+
+    def priority(self, job):
+        kept = self.queue
+        self.queue = {name: [t for t in queue if t not in self.forgotten]
+                      for name, queue in kept.items()}
+        try:
+            return super().priority(job)
+        finally:
+            self.queue = kept
+
+
+class RunsDisplacing(Slip):
+    """Lets a comer run whenever the job whose link it took is preemptable."""
+
+    def arrive_or_resume(self, comer):
+        before = list(self.linked)
+        super().arrive_or_resume(comer)
+        if comer in self.linked:
+            k = self.linked.index(comer)
+            if before[k] is not None and not self.non_preemptable(before[k]):
+                self.running[k] = comer
+
+
+class StaysOnQ(Slip):
+    """Leaves the moved job on q, as Figure 2 of the source prints in line 35."""
+
+    def freed(self, k):
+        moved = self.moved_links
+        super().freed(k)
+        if self.moved_links > moved:
+            self.running[k] = None
