@@ -1,3 +1,4 @@
 pub mod Check
+pub mod OneByte
 pub mod Sizes
 pub mod Verdicts

@@ -1,5 +1,5 @@
 -- Document 01, 'Blocks': where each part of a block stands, and its limits.
-use Prim.Native.Nat.{ℕ}
+use Prim.Native.Nat.{ℕ, _-_}
 
 -- the number in two bytes, the kind, the count, the payload, and the check in four
 abbrev pub kindAt : ℕ
@@ -16,6 +16,9 @@ checkAt = 508
 
 abbrev pub blockSize : ℕ
 blockSize = 512
+
+abbrev pub payloadSize : ℕ
+payloadSize = checkAt - payloadAt
 
 -- the last index that a block may have, and how many numbers there are
 abbrev pub lastIndex : ℕ

@@ -9,10 +9,17 @@ use Rattle.search.specs.Below.{allBelow}
 use Rattle.search.specs.Rows.{Row, _when_, _otherwise_, firstOf}
 use Rattle.input.specs.Layout.{byte, word, periodsAt, kindsAt, pairsAt, setUpSize, eventSize}
 use Rattle.input.specs.Refusals.{within}
-use Rattle.blocks.specs.Sizes.{kindAt, countAt, payloadAt, checkAt, blockSize, lastIndex, numbers, setUpBlock, eventBlock, mostEvents}
+use Rattle.blocks.specs.Sizes.{kindAt, countAt, payloadAt, payloadSize, blockSize, lastIndex, numbers, setUpBlock, eventBlock, mostEvents}
 use Rattle.blocks.specs.Check.{isChecked}
 use Rattle.blocks.specs.declared.Verdict.{Verdict}
 use Rattle.blocks.specs.declared.Verdict.the-variants.{Used, Refused}
+
+-- the first block is the set-up, all others are events: the kind that it must have, and the most that it may count
+abbrev pub kindFor : Bool → ℕ
+kindFor isFirst = if isFirst then setUpBlock else eventBlock
+
+abbrev pub mostFor : Bool → ℕ
+mostFor isFirst = if isFirst then 1 else mostEvents
 
 module _ (block : List ℕ) where
   abbrev pub payload : ℕ → ℕ
@@ -21,10 +28,6 @@ module _ (block : List ℕ) where
   -- the payload's bytes from one place to before another are 0
   unfoldable pub isBlank : ℕ → ℕ → Bool
   isBlank from to = allBelow (to - from) (λ i. payload (from + i) is 0)
-
-  -- the end of the payload, as a place in it
-  abbrev pub payloadSize : ℕ
-  payloadSize = checkAt - payloadAt
 
   -- in a set-up block, table places past a count are filler, and all behind the tables
   unfoldable pub isSetUpFilled : Bool
@@ -41,8 +44,13 @@ module _ (block : List ℕ) where
   unfoldable pub isEventFilled : Bool
   isEventFilled = allBelow count (λ i. payload (eventSize * i + 3) is 0) && isBlank (eventSize * count) payloadSize
 
+  abbrev pub isFilled : Bool → Bool
+  isFilled isFirst = if isFirst then isSetUpFilled else isEventFilled
+
+  abbrev pub usedSize : Bool → ℕ
+  usedSize isFirst = if isFirst then setUpSize else eventSize * count
+
   module _ (index : ℕ) where
-    -- the first block is the set-up, all others are events
     abbrev pub isFirst : Bool
     isFirst = index is 0
 
@@ -51,17 +59,14 @@ module _ (block : List ℕ) where
         30 when length block isn't blockSize otherwise
         31 when not (isChecked block) otherwise
         32 when (word block 0 isn't index % numbers || ltb lastIndex index) otherwise
-        33 when byte block kindAt isn't (if isFirst then setUpBlock else eventBlock) otherwise
-        34 when not (within 1 count (if isFirst then 1 else mostEvents)) otherwise
-        35 when not (if isFirst then isSetUpFilled else isEventFilled) otherwise
+        33 when byte block kindAt isn't kindFor isFirst otherwise
+        34 when not (within 1 count (mostFor isFirst)) otherwise
+        35 when not (isFilled isFirst) otherwise
         []
-
-    abbrev pub usedSize : ℕ
-    usedSize = if isFirst then setUpSize else eventSize * count
 
     -- accepted, with the length of the used part, or refused, with its number
     unfoldable pub verdict : Verdict
-    verdict = if firstOf blockRows is 0 then Used usedSize else Refused (firstOf blockRows)
+    verdict = if firstOf blockRows is 0 then Used (usedSize isFirst) else Refused (firstOf blockRows)
 
   -- the used part that a verdict speaks of
   abbrev pub usedPart : Verdict → List ℕ

@@ -2,8 +2,9 @@
 use crate::Block;
 use crate::Check;
 ghost use mathlib.Core.Path.{_≡_};
-ghost use Prim.Native.Nat.{_+_, _*_, _≤_, _<_};
+ghost use Prim.Native.Nat.{_<_};
 ghost use Rattle.input.specs.Layout.{word};
+ghost use Rattle.blocks.specs.Sizes.{blockSize};
 ghost use Rattle.blocks.specs.Check.{modulus, adding, checkOf, isChecked};
 
 const WORDS: usize = 254;
@@ -22,7 +23,7 @@ fn add(c: Check, w: u16) -> Check
 }
 
 pub fn word_at(block: &[u8], i: usize) -> u16
-    requires { ⌜ i < 512 ⌝ }
+    requires { ⌜ i < blockSize ⌝ }
     ensures { λ r. ⌜ r ≡ word (now (block .entry)) i ⌝ }
 {
     input::word_of(input::byte_at(block, i), input::byte_at(block, i + 1))

@@ -6,17 +6,14 @@ use crate::checking::word_at;
 use input::Event;
 use input::SetUp;
 ghost use mathlib.Core.Path.{_≡_};
-ghost use mathlib.Core.Bool.{_||_};
-ghost use Prim.Native.Nat.{_%_, _≤_};
-ghost use lib.Dec.{ltb};
-ghost use Rattle.search.specs.Words.{if_then_else_, _is_, _isn't_};
+ghost use Prim.Native.Nat.{_≤_};
 ghost use Rattle.search.specs.Rows.{firstOf};
-ghost use Rattle.blocks.specs.Sizes.{lastIndex, numbers};
-ghost use Rattle.blocks.specs.Verdicts.{isBlank, isSetUpFilled, isEventFilled, blockRows, verdict, usedPart, numberOf};
+ghost use Rattle.blocks.specs.Sizes.{payloadSize};
+ghost use Rattle.blocks.specs.Verdicts.{kindFor, mostFor, isBlank, isSetUpFilled, isEventFilled, isFilled, usedSize, blockRows, verdict, usedPart, numberOf};
 
 // The payload's bytes from `from` to before `to` are 0.
 fn is_blank(block: &[u8], from: usize, to: usize) -> bool
-    requires { ⌜ to ≤ 504 ⌝ }
+    requires { ⌜ to ≤ payloadSize ⌝ }
     ensures { λ r. ⌜ r ≡ isBlank (now (block .entry)) from to ⌝ }
 {
     let mut ok = true;
@@ -54,6 +51,39 @@ fn is_event_filled(block: &[u8]) -> bool
         )
 }
 
+// What the first block and all others must have, and how much of each is used.
+fn kind_for(first: bool) -> u8
+    ensures { λ r. ⌜ r ≡ kindFor first ⌝ }
+{
+    if first { Block::SET_UP } else { Block::EVENTS }
+}
+
+fn most_for(first: bool) -> u8
+    ensures { λ r. ⌜ r ≡ mostFor first ⌝ }
+{
+    if first { 1 } else { Block::MOST_EVENTS }
+}
+
+fn is_filled(block: &[u8], first: bool) -> bool
+    ensures { λ r. ⌜ r ≡ isFilled (now (block .entry)) first ⌝ }
+{
+    if first {
+        is_set_up_filled(block)
+    } else {
+        is_event_filled(block)
+    }
+}
+
+fn used_size(block: &[u8], first: bool) -> usize
+    ensures { λ r. ⌜ r ≡ usedSize (now (block .entry)) first ⌝ }
+{
+    if first {
+        SetUp::SIZE
+    } else {
+        Event::SIZE * (input::byte_at(block, Block::COUNT_AT) as usize)
+    }
+}
+
 // The first of 30 to 35 that applies, or 0.
 fn refusal_of(block: &[u8], index: u64) -> u8
     ensures { λ r. ⌜ r ≡ firstOf (blockRows (now (block .entry)) index) ⌝ }
@@ -61,22 +91,10 @@ fn refusal_of(block: &[u8], index: u64) -> u8
     let is_first = index == 0;
     let kind = input::byte_at(block, Block::KIND_AT);
     let count = input::byte_at(block, Block::COUNT_AT);
-    let number = word_at(block, 0) as u64;
-    let is_filled = if is_first {
-        is_set_up_filled(block)
-    } else {
-        is_event_filled(block)
-    };
-    let r35 = search::row(35, !is_filled, 0);
-    let most = if is_first { 1 } else { Block::MOST_EVENTS };
-    let r34 = search::row(34, !((1 <= count) & (count <= most)), r35);
-    let expected = if is_first {
-        Block::SET_UP
-    } else {
-        Block::EVENTS
-    };
-    let r33 = search::row(33, kind != expected, r34);
-    let misnumbered = number != index % Block::NUMBERS;
+    let misnumbered = word_at(block, 0) as u64 != index % Block::NUMBERS;
+    let r35 = search::row(35, !is_filled(block, is_first), 0);
+    let r34 = search::row(34, !((1 <= count) & (count <= most_for(is_first))), r35);
+    let r33 = search::row(33, kind != kind_for(is_first), r34);
     let r32 = search::row(32, misnumbered | (Block::LAST_INDEX < index), r33);
     let r31 = search::row(31, !is_checked(block), r32);
     search::row(30, block.len() != Block::SIZE, r31)
@@ -87,12 +105,10 @@ pub fn judge(block: &[u8], index: u64) -> Verdict
     ensures { λ r. ⌜ r ≡ verdict (now (block .entry)) index ⌝ }
 {
     let refusal = refusal_of(block, index);
-    if refusal != 0 {
-        Verdict::Refused(refusal)
-    } else if index == 0 {
-        Verdict::Used(SetUp::SIZE)
+    if refusal == 0 {
+        Verdict::Used(used_size(block, index == 0))
     } else {
-        Verdict::Used(Event::SIZE * (input::byte_at(block, Block::COUNT_AT) as usize))
+        Verdict::Refused(refusal)
     }
 }
 
@@ -116,10 +132,9 @@ pub fn used_part(block: &[u8], v: Verdict) -> &[u8]
     if block.len() < Block::PAYLOAD_AT {
         return &block[0..0];
     }
-    let end = if n < block.len() - Block::PAYLOAD_AT {
-        Block::PAYLOAD_AT + n
-    } else {
-        block.len()
-    };
+    if block.len() - Block::PAYLOAD_AT <= n {
+        return &block[Block::PAYLOAD_AT..];
+    }
+    let end = Block::PAYLOAD_AT + n;
     &block[Block::PAYLOAD_AT..end]
 }

@@ -1,0 +1,47 @@
+-- What a verdict's number says of the rows, and how long its part is. Assumes nothing.
+use Prim.Native.Nat.{ℕ, _≤_}
+use mathlib.Core.Path.{_≡_, refl, _∙_}
+use mathlib.Core.Bool.{Bool, true, false}
+use mathlib.Core.List.{List}
+use mathlib.Core.Logic.{_≢_, _↔_}
+use native.Mathlib.Omega.{arith}
+use native.Mathlib.Decide.{ℕ-discrete}
+use lib.ListN.{length, drop, length-drop}
+use lib.Seq.{length-take-le}
+use borrow.Author.Tests.{ne-eqb}
+use Rattle.search.specs.Rows.{firstOf}
+use Rattle.search.proofs.Tests.{tests}
+use Rattle.search.proofs.Refusals.{Given, NoneApplies, given-iff, none-iff}
+use Rattle.blocks.specs.Sizes.{payloadAt, payloadSize}
+use Rattle.blocks.specs.Verdicts.{mostFor, count, usedSize, isFirst, blockRows, verdict, usedPart, numberOf, lengthOf}
+
+used-fits : (block : List ℕ) (first : Bool) → count block ≤ mostFor first → usedSize block first ≤ payloadSize
+used-fits block true h = omega arith
+used-fits block false h = omega arith
+
+module _ (block : List ℕ) (index : ℕ) where
+  number-first : numberOf (verdict block index) ≡ firstOf (blockRows block index)
+  unfolding verdict
+  number-first = elim (ℕ-discrete (firstOf (blockRows block index)) 0) [ yes e ↦ rw e | no d ↦ rw (ne-eqb _ _ d) ]
+
+  -- the number is n, not 0, exactly when row n applies and no earlier one does
+  pub judge-given : (n : ℕ) → n ≢ 0 → (numberOf (verdict block index) ≡ n) ↔ Given (blockRows block index) n
+  judge-given n d = rw number-first (given-iff (blockRows block index) n d)
+
+  -- and 0 exactly when no row applies
+  pub judge-none : (numberOf (verdict block index) ≡ 0) ↔ NoneApplies (blockRows block index)
+  unfolding blockRows
+  judge-none = rw number-first (none-iff (blockRows block index) refl)
+
+  -- the used part has the length that the verdict says
+  pub used-length : length (usedPart block (verdict block index)) ≡ lengthOf (verdict block index)
+  unfolding verdict blockRows
+  used-length = elim (ℕ-discrete (firstOf (blockRows block index)) 0) [
+    | yes e ↦
+        let none = judge-none .0 (number-first ∙ e) in
+        let size = simp tests at (none 0 (omega arith)) in
+        let counted = simp tests at (none 4 (omega arith)) in
+        let fits = used-fits block (isFirst block index) (counted .1) in
+        rw e (length-take-le _ (drop payloadAt block) (omega (arith, length-drop payloadAt block)))
+    | no d ↦ rw (ne-eqb _ _ d)
+  ]

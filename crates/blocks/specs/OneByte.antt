@@ -1,0 +1,23 @@
+-- Document 01, 'Blocks': changing any one byte of the 508 before the check is caught.
+use Prim.Native.Nat.{ℕ, _<_}
+use mathlib.Core.Path.{_≡_}
+use mathlib.Core.List.{List}
+use mathlib.Core.Logic.{_≢_}
+use Rattle.input.specs.Layout.{byte}
+use Rattle.blocks.specs.Sizes.{checkAt}
+use Rattle.blocks.specs.Verdicts.{verdict}
+use Rattle.blocks.specs.declared.Verdict.the-variants.{Used}
+
+abbrev pub AreBytes : List ℕ → Type 0
+AreBytes block = (i : ℕ) → byte block i < 256
+
+-- one byte before the check is another, and all others are as they were
+pub record OneChanged (a b : List ℕ) : Type 0 where
+  pub place : ℕ
+  pub inside : place < checkAt
+  pub changed : byte a place ≢ byte b place
+  pub others : (i : ℕ) → i ≢ place → byte a i ≡ byte b i
+
+-- of two such blocks not both are accepted, at whatever indices
+abbrev pub OneByteIsCaught : Type 0
+OneByteIsCaught = (a b : List ℕ) → AreBytes a → AreBytes b → OneChanged a b → (k l m n : ℕ) → verdict a k ≡ Used m → verdict b l ≡ Used n → ⊥
