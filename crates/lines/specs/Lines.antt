@@ -1,9 +1,9 @@
 -- Document 01, 'Printing': the text of each line, and what a line gives back.
-use Prim.Native.Nat.{ℕ, zero, suc, _+_, _*_, min}
+use Prim.Native.Nat.{ℕ, _+_, _*_, min}
 use mathlib.Core.Bool.{Bool, not}
 use mathlib.Core.List.{List, [], _++_}
 use lib.Dec.{leb, ltb}
-use lib.ListN.{length}
+use lib.ListN.{length, getD}
 use Rattle.search.specs.Words.{if_then_else_, _is_}
 use Rattle.search.specs.Rows.{Row, _when_, _otherwise_, firstOf}
 use Rattle.processors.specs.Limits.{processors}
@@ -13,40 +13,49 @@ use Rattle.protocol.specs.Words.{task}
 use Rattle.protocol.specs.Sound.{sound}
 use Rattle.protocol.specs.declared.State.{State}
 use Rattle.locking.specs.Playing.{lineOf, written}
-use Rattle.lines.specs.Texts.{codes, decimal}
+use Rattle.lines.specs.Texts.{codes, decimal, numbered, eachText}
 use Rattle.lines.specs.declared.Line.{Line}
 
 -- the first line: the counts of processors and tasks, and start
 unfoldable pub firstText : ℕ → ℕ → ℕ → List ℕ
-firstText m n start = codes "processors " ++ decimal m ++ codes " tasks " ++ decimal n ++ codes " start " ++ decimal start ++ codes "\n"
+firstText m n start = numbered "processors " m ++ numbered " tasks " n ++ numbered " start " start ++ codes "\n"
 
 -- a task, or `-` for none
 unfoldable pub taskText : ℕ → List ℕ
 taskText t = if t is nothing then codes "-" else decimal t
 
--- linked/running task on the first k processors, as they are written of an event
-unfoldable pub placesText : List ℕ → ℕ → List ℕ
-placesText line zero = []
-placesText line (suc k) = placesText line k ++ codes " " ++ taskText (byte line (2 * k + 1)) ++ codes "/" ++ taskText (byte line (2 * k + 2))
+-- linked/running task on a processor
+abbrev pub placeText : ℕ → ℕ → List ℕ
+placeText linked running = codes " " ++ taskText linked ++ codes "/" ++ taskText running
+
+-- on the first processors, as they are written of an event
+abbrev pub placesText : List ℕ → ℕ → List ℕ
+placesText line = eachText (λ k. placeText (byte line (2 * k + 1)) (byte line (2 * k + 2)))
 
 -- an event: its number, the answer, and per processor linked/running task
 unfoldable pub eventText : ℕ → ℕ → List ℕ → List ℕ
-eventText number count line = decimal number ++ codes " " ++ decimal (byte line 0) ++ placesText line (min count processors) ++ codes "\n"
+eventText number count line = decimal number ++ numbered " " (byte line 0) ++ placesText line (min count processors) ++ codes "\n"
 
--- the first k of a list of totals
-unfoldable pub totalsText : List ℕ → ℕ → List ℕ
-totalsText totals zero = []
-totalsText totals (suc k) = totalsText totals k ++ codes " " ++ decimal (byte totals k)
+-- the first of a list of totals
+abbrev pub totalsText : List ℕ → ℕ → List ℕ
+totalsText totals = eachText (λ k. numbered " " (getD totals k 0))
 
 -- a task's totals
 unfoldable pub taskLineText : ℕ → List ℕ → List ℕ
-taskLineText t totals = codes "task " ++ decimal t ++ totalsText totals (length totals) ++ codes "\n"
+taskLineText t totals = numbered "task " t ++ totalsText totals (length totals) ++ codes "\n"
 
 unfoldable pub blockText : ℕ → ℕ → List ℕ
-blockText index refusal = codes "block " ++ decimal index ++ codes " refused " ++ decimal refusal ++ codes "\n"
+blockText index refusal = numbered "block " index ++ numbered " refused " refusal ++ codes "\n"
 
 unfoldable pub setUpText : ℕ → List ℕ
-setUpText refusal = codes "setup refused " ++ decimal refusal ++ codes "\n"
+setUpText refusal = numbered "setup refused " refusal ++ codes "\n"
+
+-- no place and no total is longer
+abbrev pub placeWidth : ℕ
+placeWidth = 8
+
+abbrev pub totalWidth : ℕ
+totalWidth = 11
 
 -- a line's buffer has so many bytes, or more
 abbrev pub lineLimit : ℕ
@@ -66,6 +75,9 @@ unsound s out = 9 when not (sound s) otherwise narrow out
 
 -- the line of each kind: from numbers alone, and from a state
 module _ (out : List ℕ) where
+  abbrev pub countsLine : ℕ → ℕ → ℕ → Line × List ℕ
+  countsLine m n start = lineInto (narrow out) (firstText m n start) out
+
   abbrev pub firstLine : State → Line × List ℕ
   firstLine s = lineInto (unsound s out) (firstText (s .setup .processors) (s .setup .tasks) (s .setup .start)) out
 

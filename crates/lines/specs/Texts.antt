@@ -1,19 +1,26 @@
--- Texts as bytes: quoted ones by the codes of their characters, and numbers by their decimal digits.
+-- Texts as bytes: quoted ones by the codes of their characters, and numbers by their decimal digits; and a text put into a buffer.
 use Prim.Native.Nat.{ℕ, zero, suc, _+_, _/_, _%_}
 use Prim.Native.Char.{code}
 use Prim.Native.String.{String, [] as none, _∷_ as _then_}
+use mathlib.Core.Path.{_≡_}
 use mathlib.Core.List.{List, [], _∷_, _++_}
 use lib.Dec.{ltb}
+use lib.ListN.{length}
 use Rattle.search.specs.Words.{if_then_else_}
+use Rattle.locking.specs.Playing.{written}
 
 abbrev pub codes : String → List ℕ
 codes none = []
 codes (c then text) = code c ∷ codes text
 
+-- the last decimal digit of n
+abbrev pub digit : ℕ → List ℕ
+digit n = (48 + n % 10) ∷ []
+
 -- the decimal digits of n, the last k of them where there are more
 unfoldable pub digits : ℕ → ℕ → List ℕ
 digits zero n = []
-digits (suc k) n = (if ltb n 10 then [] else digits k (n / 10)) ++ (48 + n % 10 ∷ [])
+digits (suc k) n = (if ltb n 10 then [] else digits k (n / 10)) ++ digit n
 
 -- twenty digits hold every number of 64 bits
 abbrev pub mostDigits : ℕ
@@ -21,3 +28,17 @@ mostDigits = 20
 
 abbrev pub decimal : ℕ → List ℕ
 decimal n = digits mostDigits n
+
+-- a number behind a word
+abbrev pub numbered : String → ℕ → List ℕ
+numbered word n = codes word ++ decimal n
+
+-- the texts of 0, 1 and so on below k, one behind another
+unfoldable pub eachText : (ℕ → List ℕ) → ℕ → List ℕ
+eachText text zero = []
+eachText text (suc k) = eachText text k ++ text k
+
+-- a text put into a buffer from a place on: the place behind it, and the buffer after
+pub record Put (before : List ℕ) (at : ℕ) (text : List ℕ) (behind : ℕ) (after : List ℕ) : Type 0 where
+  pub place : behind ≡ at + length text
+  pub bytes : after ≡ written before at text

@@ -1,10 +1,9 @@
 // The lines of a state: the sound test, and then a line that needs no state.
 use crate::Line;
+use crate::numbers::counts_line;
 use crate::numbers::places_line;
 use crate::numbers::refused;
 use crate::numbers::totals_line;
-use crate::writing::put_number;
-use crate::writing::put_text;
 use protocol::State;
 ghost use mathlib.Core.Path.{_≡_};
 ghost use Rattle.lines.specs.Lines.{firstLine, eventLine, taskLine};
@@ -16,18 +15,8 @@ pub fn first_line(state: State, out: &mut [u8]) -> Line
     if !soundness::is_sound(state) {
         return refused(9);
     }
-    if out.len() < Line::LIMIT {
-        return refused(36);
-    }
     let setup = state.setup;
-    let a = put_text(out, 0, b"processors ");
-    let b = put_number(out, a, setup.processors as u64);
-    let c = put_text(out, b, b" tasks ");
-    let d = put_number(out, c, setup.tasks as u64);
-    let e = put_text(out, d, b" start ");
-    let f = put_number(out, e, setup.start as u64);
-    let len = put_text(out, f, b"\n");
-    Line { number: 0, len }
+    counts_line(setup.processors, setup.tasks, setup.start, out)
 }
 
 // The line of an event that gave this answer and left this state.

@@ -18,10 +18,15 @@ unfolding written
 written-long bytes at [] = refl
 written-long bytes at (x ∷ text) = written-long (set bytes at x) (suc at) text ∙ length-set bytes at x
 
+-- one text behind another
+pub written-join : (bytes : List ℕ) (at : ℕ) (text more : List ℕ) → written bytes at (text ++ more) ≡ written (written bytes at text) (at + length text) more
+unfolding written
+written-join bytes at [] more = rw (add-zero at)
+written-join bytes at (x ∷ text) more = rw (add-suc at (length text), ← (suc-add at (length text))) (written-join (set bytes at x) (suc at) text more)
+
 written-more : (bytes : List ℕ) (at : ℕ) (text : List ℕ) (x : ℕ) → written bytes at (text ++ (x ∷ [])) ≡ set (written bytes at text) (at + length text) x
 unfolding written
-written-more bytes at [] x = rw (add-zero at)
-written-more bytes at (y ∷ text) x = rw (add-suc at (length text), ← (suc-add at (length text))) (written-more (set bytes at y) (suc at) text x)
+written-more bytes at text x = written-join bytes at text (x ∷ [])
 
 -- one byte more of the text
 pub written-turn : (bytes : List ℕ) (at : ℕ) (text : List ℕ) (i : ℕ) → i < length text

@@ -1,7 +1,7 @@
 -- Document 01, 'Printing': the page of lines that is printed of each block, and the last one, at the input's end.
-use Prim.Native.Nat.{ℕ, zero, suc, _+_, _*_, _%_, min}
-use mathlib.Core.Bool.{Bool, true, false}
-use mathlib.Core.List.{List, [], _++_}
+use Prim.Native.Nat.{ℕ, suc, _+_, _*_, _%_, min}
+use mathlib.Core.Bool.{true, false}
+use mathlib.Core.List.{List, []}
 use lib.Dec.{ltb}
 use lib.ListN.{length}
 use Rattle.search.specs.Words.{if_then_else_, _is_}
@@ -16,6 +16,7 @@ use Rattle.blocks.specs.Sizes.{mostEvents}
 use Rattle.blocks.specs.Verdicts.{verdict, usedPart}
 use Rattle.blocks.specs.declared.Verdict.{Verdict}
 use Rattle.blocks.specs.declared.Verdict.the-variants.{Used, Refused}
+use Rattle.lines.specs.Texts.{eachText}
 use Rattle.lines.specs.Lines.{lineLimit, firstText, eventText, taskLineText, blockText, setUpText}
 use Rattle.stepping.specs.declared.Session.{Session}
 use Rattle.stepping.specs.declared.Page.{Page}
@@ -24,17 +25,14 @@ use Rattle.stepping.specs.declared.Page.{Page}
 abbrev pub wide : ℕ
 wide = 18446744073709551616
 
--- the lines of the first n events of a part, numbered on from `events`
-unfoldable pub eventsText : State → List ℕ → ℕ → ℕ → List ℕ
-eventsText s part events zero = []
-eventsText s part events (suc n) =
-    eventsText s part events n
-    ++ eventText ((events + suc n) % wide) (s .setup .processors) (lineOf (replyTo s part n .answer) (replyTo s part n .state .processors))
+-- the lines of the first events of a part, numbered on from `events`
+abbrev pub eventsText : State → List ℕ → ℕ → ℕ → List ℕ
+eventsText s part events =
+    eachText (λ n. eventText ((events + suc n) % wide) (s .setup .processors) (lineOf (replyTo s part n .answer) (replyTo s part n .state .processors)))
 
--- the lines of the first n tasks
-unfoldable pub tasksText : State → ℕ → List ℕ
-tasksText s zero = []
-tasksText s (suc n) = tasksText s n ++ taskLineText n (task s n .totals)
+-- the lines of the first tasks
+abbrev pub tasksText : State → ℕ → List ℕ
+tasksText s = eachText (λ t. taskLineText t (task s t .totals))
 
 -- before the first block
 unfoldable pub beginning : Session

@@ -46,7 +46,8 @@ fn set_up_page(x: Session, part: &[u8], out: &mut [u8]) -> Page {
         return ended(x, line.len);
     }
     let state = reply.state;
-    let line = lines::first_line(state, out);
+    let setup = state.setup;
+    let line = lines::counts_line(setup.processors, setup.tasks, setup.start, out);
     let session = Session {
         index: 1,
         events: 0,
