@@ -4,6 +4,7 @@ mod states;
 mod writing;
 
 pub use numbers::block_line;
+pub use numbers::counts_line;
 pub use numbers::places_line;
 pub use numbers::set_up_line;
 pub use numbers::totals_line;
