@@ -14,7 +14,7 @@ returns : tie.Need-returns
 returns c = search needs
 
 returns-2 : tie.Need-returns-2
-returns-2 c = sym (unsound-judged _ _ (rw (c .before .test .ensures) at (c .if1 .left)))
+returns-2 c = sym (unsound-judged _ _ (cc))
 
 pub judge-spec : {M : Type 1} → statement M
 judge-spec = tie.close (tie.spec test-requires judge-sound-requires returns returns-2)
