@@ -3,7 +3,6 @@ use crate::Tested;
 use crate::groups::all_groups;
 use crate::requests::all_requests;
 use crate::requests::all_waiting;
-use crate::tables::holders_of;
 use crate::tasks::all_empty;
 use crate::tasks::all_times;
 use input::SetUp;
@@ -31,7 +30,7 @@ fn locks_hold(state: State, named: [u8; SetUp::RESOURCES]) -> bool
     ensures { λ r. ⌜ r ≡ locksSound state ⌝ }
 {
     let groups = state.groups;
-    let holders = holders_of(groups);
+    let holders = views::holders_of(groups);
     if all_requests(state, named, holders) {
         all_waiting(state, named) & all_groups(state, named)
     } else {
