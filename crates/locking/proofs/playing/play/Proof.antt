@@ -18,7 +18,7 @@ use Rattle.locking.proofs.playing.play.Tie as tie
 
 abbrev Inv-loop : tie.InvT-loop
 Inv-loop part out₀ named is-sound events room count at₀ now-state₀ i₀ out at now-state i =
-    (i ≤ count) × (count ≡ playable part out₀) × (at ≡ lineSize * i) × (now-state ≡ playedTo now-state₀ part out₀ i) × (out ≡ writtenTo now-state₀ part out₀ i)
+    (i ≤ count) × (count ≡ playable part out₀) × (at ≡ lineSize * i) × (now-state ≡ playedTo now-state₀ part i) × (out ≡ writtenTo now-state₀ part out₀ i)
 
 abbrev μ-loop : tie.MeasureT-loop
 μ-loop part out₀ named is-sound events room count at₀ now-state₀ i₀ out at now-state i = count - i
@@ -44,7 +44,7 @@ step-known-requires : tie.Need-step-known-requires Inv-loop μ-loop
 step-known-requires c κs =
     let o = c .before .before .loop in
     let start = c .before .before .before .before .before .before .before .before .before in
-    let K = kept-along (start .args .state) (start .args .part .now) (start .args .out .now) (shaped _ _ (start .good .0)) (o .i) in
+    let K = kept-along (start .args .state) (start .args .part .now) (shaped _ _ (start .good .0)) (o .i) in
     let test = c .before .before .before .before .before .before .test in (
       ap sound (o .inv .3) ∙ K .0 ∙ ap (λ (x : Tested). x .passes) (sym (test .ensures)),
       ap (λ (x : Tested). x .named) (test .ensures) ∙ ap names (sym (ap (λ (x : State). x .setup) (o .inv .3) ∙ K .1)),
@@ -70,14 +70,14 @@ loop-again c =
     let o = c .before .before .before .before .before .before .before .before .before .before .loop in
     let a = c .before .before .before .before .before .before .before .before .before .before .before .before .before .before .before .before .before .args in
     let r = c .before .before .before .before .before .before .before .step-known in
-    let replied : r .result ≡ step (playedTo (a .state) (a .part .now) (a .out .now) (o .i)) (eventIn (a .part .now) (o .i)) =
+    let replied : r .result ≡ step (playedTo (a .state) (a .part .now) (o .i)) (eventIn (a .part .now) (o .i)) =
     rw (← (o .inv .3), ← (c .before .before .before .before .before .before .before .before .event-at .ensures)) (r .ensures) in
     let line = c .before .before .before .line-of in
     let put = c .before .before .put-line in (
       omega arith,
       o .inv .1,
       omega (arith, put .ensures .0, o .inv .2),
-      played-turn (a .state) (a .part .now) (a .out .now) (o .i) (r .result) replied,
+      played-turn (a .state) (a .part .now) (o .i) (r .result) replied,
       (rw (o .inv .2, o .inv .4) at (put .ensures .1)) ∙ buffer-turn (a .state) (a .part .now) (a .out .now) (o .i) (r .result) (line .result) replied (line .ensures),
     )
 
