@@ -8,16 +8,18 @@ use protocol::State;
 use protocol::Task;
 ghost use mathlib.Core.Path.{_≡_};
 ghost use mathlib.Core.Bool.{true};
+ghost use mathlib.Core.List.{[], _++_};
 ghost use Prim.Native.Nat.{_-_};
 ghost use lib.ListN.{getD};
 ghost use Rattle.search.specs.Words.{_is_};
 ghost use Rattle.search.specs.Below.{anyBelow};
+ghost use Rattle.search.specs.Rows.{_when_, _otherwise_, firstOf};
 ghost use Rattle.input.specs.Naming.{names};
 ghost use Rattle.protocol.specs.Words.{nobody};
 ghost use Rattle.protocol.specs.Situations.{hindrance};
 ghost use Rattle.protocol.specs.Sound.{sound};
-ghost use Rattle.protocol.specs.Refusals.{judge};
-ghost use Rattle.locking.specs.Steps.{isApart, fieldRows};
+ghost use Rattle.protocol.specs.Refusals.{fieldRows, judge};
+ghost use Rattle.locking.specs.Steps.{isApart};
 
 // The furthest step that goes forward, plus one; and the clock's end.
 const BACKWARD: u16 = 32768;
@@ -82,7 +84,7 @@ fn newest(requests: [u8; Task::REQUESTS], depth: usize) -> u8
 
 // The rows 10 to 13, which look at the event's fields alone; `later` where none applies.
 fn field_rows(tasks: usize, resources: usize, e: Event, later: u8) -> u8
-    ensures { λ r. ⌜ r ≡ fieldRows tasks resources e later ⌝ }
+    ensures { λ r. ⌜ r ≡ firstOf (fieldRows tasks resources e ++ (later when true otherwise [])) ⌝ }
 {
     let kind = e.kind;
     let t = e.task;
