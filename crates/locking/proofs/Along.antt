@@ -23,9 +23,9 @@ step-setup : (s : State) (e : Event) → Sound s → step s e .state .setup ≡ 
 unfolding run
 step-setup s e Q = run-setup s (e ∷ []) Q
 
-module _ (s : State) (part out : List ℕ) where
-  -- ---- the state
-  sound-along : Sound s → (n : ℕ) → Sound (playedTo s part out n) × (playedTo s part out n .setup ≡ s .setup)
+-- ---- the state
+module _ (s : State) (part : List ℕ) where
+  sound-along : Sound s → (n : ℕ) → Sound (playedTo s part n) × (playedTo s part n .setup ≡ s .setup)
   unfolding playedTo
   sound-along Q zero = (Q, refl)
   sound-along Q (suc n) =
@@ -33,7 +33,7 @@ module _ (s : State) (part out : List ℕ) where
       (step-sound _ (eventIn part n) (before .0), step-setup _ (eventIn part n) (before .0) ∙ before .1)
 
   -- each event is refused
-  unsound-along : sound s ≡ false → (n : ℕ) → playedTo s part out n ≡ s
+  unsound-along : sound s ≡ false → (n : ℕ) → playedTo s part n ≡ s
   unfolding playedTo
   unsound-along h zero = refl
   unsound-along h (suc n) =
@@ -41,14 +41,20 @@ module _ (s : State) (part out : List ℕ) where
       ap (λ (r : Reply). r .state) (unsound-stepped _ (eventIn part n) (ap sound before ∙ h)) ∙ before
 
   -- one sound test at the start does for all
-  pub kept-along : Shaped s → (n : ℕ) → (sound (playedTo s part out n) ≡ sound s) × (playedTo s part out n .setup ≡ s .setup)
+  pub kept-along : Shaped s → (n : ℕ) → (sound (playedTo s part n) ≡ sound s) × (playedTo s part n .setup ≡ s .setup)
   kept-along Z n = go (sound s) refl
     where
-      go : (b : Bool) → sound s ≡ b → (sound (playedTo s part out n) ≡ sound s) × (playedTo s part out n .setup ≡ s .setup)
+      go : (b : Bool) → sound s ≡ b → (sound (playedTo s part n) ≡ sound s) × (playedTo s part n .setup ≡ s .setup)
       go true h = let K = sound-along (sound-of-test s Z h) n in (test-of-sound _ (K .0) ∙ sym h, K .1)
       go false h = let K = unsound-along h n in (ap sound K, ap (λ (x : State). x .setup) K)
 
-  -- ---- the buffer
+  -- one event more
+  pub played-turn : (n : ℕ) (r : Reply) → r ≡ replyTo s part n → r .state ≡ playedTo s part (n + 1)
+  unfolding playedTo
+  played-turn n r h = rw (add-one n) (ap (λ (x : Reply). x .state) h)
+
+-- ---- the buffer
+module _ (s : State) (part out : List ℕ) where
   pub long-along : (n : ℕ) → length (writtenTo s part out n) ≡ length out
   unfolding writtenTo
   long-along zero = refl
@@ -59,12 +65,8 @@ module _ (s : State) (part out : List ℕ) where
   unfolding playable
   room-along n l = omega (arith, long-along n)
 
-  -- ---- one event more
-  pub played-turn : (n : ℕ) (r : Reply) → r ≡ replyTo s part out n → r .state ≡ playedTo s part out (n + 1)
-  unfolding playedTo
-  played-turn n r h = rw (add-one n) (ap (λ (x : Reply). x .state) h)
-
-  pub buffer-turn : (n : ℕ) (r : Reply) (line : List ℕ) → r ≡ replyTo s part out n → line ≡ lineOf (r .answer) (r .state .processors)
+  -- one event more
+  pub buffer-turn : (n : ℕ) (r : Reply) (line : List ℕ) → r ≡ replyTo s part n → line ≡ lineOf (r .answer) (r .state .processors)
       → written (writtenTo s part out n) (lineSize * n) line ≡ writtenTo s part out (n + 1)
   unfolding writtenTo
   buffer-turn n r line h l = rw (add-one n) (ap (written (writtenTo s part out n) (lineSize * n)) (l ∙ ap (λ (x : Reply). lineOf (x .answer) (x .state .processors)) h))

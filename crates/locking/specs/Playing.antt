@@ -31,21 +31,26 @@ written bytes at (x ∷ text) = written (set bytes at x) (suc at) text
 unfoldable pub playable : List ℕ → List ℕ → ℕ
 playable part out = min (eventCount part) (length out / lineSize)
 
-module _ (s : State) (part out : List ℕ) where
+-- the answer to event n of a part, from the state before it
+abbrev replyFrom : List ℕ → ℕ → State → Reply
+replyFrom part n s = step s (eventIn part n)
+
+module _ (s : State) (part : List ℕ) where
   -- the state after the first n events
   unfoldable pub playedTo : ℕ → State
   playedTo zero = s
-  playedTo (suc n) = step (playedTo n) (eventIn part n) .state
+  playedTo (suc n) = replyFrom part n (playedTo n) .state
 
   -- the answer to the n-th of them
   abbrev pub replyTo : ℕ → Reply
-  replyTo n = step (playedTo n) (eventIn part n)
+  replyTo n = replyFrom part n (playedTo n)
 
-  -- the buffer after them
+module _ (s : State) (part out : List ℕ) where
+  -- the buffer after the first n events
   unfoldable pub writtenTo : ℕ → List ℕ
   writtenTo zero = out
-  writtenTo (suc n) = written (writtenTo n) (lineSize * n) (lineOf (replyTo n .answer) (replyTo n .state .processors))
+  writtenTo (suc n) = written (writtenTo n) (lineSize * n) (lineOf (replyTo s part n .answer) (replyTo s part n .state .processors))
 
   -- the state and the buffer after all
   unfoldable pub played : State × List ℕ
-  played = (playedTo (playable part out), writtenTo (playable part out))
+  played = (playedTo s part (playable part out), writtenTo (playable part out))

@@ -1,7 +1,7 @@
 // The clock: the step from the last accepted tick, and the exact clock after it.
 ghost use mathlib.Core.Path.{_≡_};
 ghost use Prim.Native.Nat.{_+_};
-ghost use Rattle.locking.specs.Steps.{ticksTo};
+ghost use Rattle.protocol.specs.Refusals.{ticksTo};
 
 // The new tick minus the last accepted one, modulo 65,536.
 pub fn step_to(clock: u32, tick: u16) -> u16

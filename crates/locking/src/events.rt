@@ -8,9 +8,6 @@ use crate::edits::pass_group;
 use crate::edits::queue_request;
 use crate::edits::with_processors;
 use crate::edits::with_task;
-use crate::judging::name_at;
-use crate::judging::period_at;
-use crate::judging::request_at;
 use input::Event;
 use input::SetUp;
 use processors::Processors;
@@ -72,7 +69,7 @@ fn arrival(state: State, t: u8) -> State
     let periods = setup.periods;
     let tasks = state.tasks;
     let task = views::task_at(tasks, t);
-    let due = (state.clock as u64) + (period_at(periods, t) as u64);
+    let due = (state.clock as u64) + (views::period_at(periods, t) as u64);
     arrive(with_task(state, t, arrived(task, state.clock, due)), t)
 }
 
@@ -96,7 +93,7 @@ fn has_kind(
 {
     let mut some = false;
     for i in 0..depth {
-        some = some | (views::kind_at(kinds, request_at(requests, i)) == kind);
+        some = some | (views::kind_at(kinds, views::request_at(requests, i)) == kind);
     }
     some
 }
@@ -112,7 +109,7 @@ fn request(state: State, named: [u8; SetUp::RESOURCES], t: u8, r: u8) -> State
     let task = views::task_at(tasks, t);
     let requests = task.requests;
     let kind = views::kind_at(kinds, r);
-    let g = name_at(named, r);
+    let g = views::number_at(named, r);
     let group = views::group_at(groups, g as usize);
     if has_kind(kinds, requests, task.depth, kind) | (group.holder == Task::NOTHING) {
         open_request(state, t, r, g)
@@ -164,7 +161,7 @@ fn complete(state: State, named: [u8; SetUp::RESOURCES], t: u8, r: u8) -> State
     let task = views::task_at(tasks, t);
     let requests = task.requests;
     let kind = views::kind_at(kinds, r);
-    let g = name_at(named, r);
+    let g = views::number_at(named, r);
     let group = views::group_at(groups, g as usize);
     let queue = group.queue;
     let idle = queue.len == 0;

@@ -8,42 +8,23 @@ use protocol::State;
 use protocol::Task;
 ghost use mathlib.Core.Path.{_≡_};
 ghost use mathlib.Core.Bool.{true};
+ghost use mathlib.Core.List.{[], _++_};
 ghost use Prim.Native.Nat.{_-_};
 ghost use lib.ListN.{getD};
 ghost use Rattle.search.specs.Words.{_is_};
 ghost use Rattle.search.specs.Below.{anyBelow};
+ghost use Rattle.search.specs.Rows.{_when_, _otherwise_, firstOf};
 ghost use Rattle.input.specs.Naming.{names};
 ghost use Rattle.protocol.specs.Words.{nobody};
 ghost use Rattle.protocol.specs.Situations.{hindrance};
 ghost use Rattle.protocol.specs.Sound.{sound};
-ghost use Rattle.protocol.specs.Refusals.{judge};
-ghost use Rattle.locking.specs.Steps.{isApart, fieldRows};
+ghost use Rattle.protocol.specs.Refusals.{fieldRows, judge};
+ghost use Rattle.locking.specs.Steps.{isApart};
 
 // The furthest step that goes forward, plus one; and the clock's end.
 const BACKWARD: u16 = 32768;
 
 const LAST_CLOCK: u64 = 4294967295;
-
-pub fn request_at(requests: [u8; Task::REQUESTS], i: usize) -> u8
-    ensures { λ r. ⌜ r ≡ getD requests i nobody ⌝ }
-{
-    if i < Task::REQUESTS {
-        requests[i]
-    } else {
-        Task::NOTHING
-    }
-}
-
-pub fn name_at(named: [u8; SetUp::RESOURCES], r: u8) -> u8
-    ensures { λ g. ⌜ g ≡ getD named r nobody ⌝ }
-{
-    let i = r as usize;
-    if i < SetUp::RESOURCES {
-        named[i]
-    } else {
-        Task::NOTHING
-    }
-}
 
 pub fn hindrance_of(situation: Situation) -> u8
     ensures { λ r. ⌜ r ≡ hindrance situation ⌝ }
@@ -64,7 +45,7 @@ fn is_open(requests: [u8; Task::REQUESTS], depth: usize, r: u8) -> bool
 {
     let mut some = false;
     for i in 0..depth {
-        some = some | (request_at(requests, i) == r);
+        some = some | (views::request_at(requests, i) == r);
     }
     some
 }
@@ -80,13 +61,13 @@ fn is_misplaced(
     ensures { λ o. ⌜ o ≡ anyBelow depth (λ i. isApart kinds named r (getD requests i nobody)) ⌝ }
 {
     let kind = views::kind_at(kinds, r);
-    let group = name_at(named, r);
+    let group = views::number_at(named, r);
     let mut some = false;
     for i in 0..depth {
-        let q = request_at(requests, i);
+        let q = views::request_at(requests, i);
         let other = views::kind_at(kinds, q);
         let inside = (kind == SetUp::LONG) & (other == SetUp::SHORT);
-        some = some | (inside | ((other == kind) & (name_at(named, q) != group)));
+        some = some | (inside | ((other == kind) & (views::number_at(named, q) != group)));
     }
     some
 }
@@ -95,22 +76,15 @@ fn newest(requests: [u8; Task::REQUESTS], depth: usize) -> u8
     ensures { λ r. ⌜ r ≡ getD requests (depth - 1) nobody ⌝ }
 {
     if 0 < depth {
-        request_at(requests, depth - 1)
+        views::request_at(requests, depth - 1)
     } else {
-        request_at(requests, 0)
+        views::request_at(requests, 0)
     }
-}
-
-pub fn period_at(periods: [u16; SetUp::TASKS], t: u8) -> u16
-    ensures { λ r. ⌜ r ≡ getD periods t 0 ⌝ }
-{
-    let i = t as usize;
-    if i < SetUp::TASKS { periods[i] } else { 0 }
 }
 
 // The rows 10 to 13, which look at the event's fields alone; `later` where none applies.
 fn field_rows(tasks: usize, resources: usize, e: Event, later: u8) -> u8
-    ensures { λ r. ⌜ r ≡ fieldRows tasks resources e later ⌝ }
+    ensures { λ r. ⌜ r ≡ firstOf (fieldRows tasks resources e ++ (later when true otherwise [])) ⌝ }
 {
     let kind = e.kind;
     let t = e.task;
@@ -144,7 +118,7 @@ pub fn judge_sound(state: State, named: [u8; SetUp::RESOURCES], e: Event) -> u8
     let stand = views::stand_of(standing);
     let hinders = hindrance_of(views::situation_of(stand, p, t));
     let now = clock_after(state.clock, e.tick);
-    let due = (task.last as u64) + (period_at(periods, t) as u64);
+    let due = (task.last as u64) + (views::period_at(periods, t) as u64);
     let comes = kind == Event::ARRIVAL;
     let asks = kind == Event::REQUEST;
     let acts = (Event::FINISH <= kind) & (kind <= Event::COMPLETION);

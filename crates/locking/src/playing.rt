@@ -54,9 +54,9 @@ fn step_known(state: State, named: [u8; SetUp::RESOURCES], known: bool, e: Event
 pub fn play(state: State, part: &[u8], out: &mut [u8]) -> State
     ensures { λ r. ⌜ (r, now (out .exit)) ≡ played state (now (part .entry)) (now (out .entry)) ⌝ }
 {
-    let setup = state.setup;
-    let named = input::names_of(setup);
-    let is_sound = soundness::is_sound(state);
+    let tested = soundness::test(state);
+    let named = tested.named;
+    let is_sound = tested.passes;
     let events = input::event_count(part);
     let room = out.len() / LINE_SIZE;
     let count = if events < room { events } else { room };

@@ -114,9 +114,10 @@ pub fn begin(setup: SetUp) -> Reply
 pub fn judge(state: State, e: Event) -> u8
     ensures { λ r. ⌜ r ≡ judgeRule state e ⌝ }
 {
-    if soundness::is_sound(state) {
-        let setup = state.setup;
-        judge_sound(state, input::names_of(setup), e)
+    let tested = soundness::test(state);
+    if tested.passes {
+        let named = tested.named;
+        judge_sound(state, named, e)
     } else {
         9
     }
@@ -144,9 +145,10 @@ pub fn step_sound(state: State, named: [u8; SetUp::RESOURCES], e: Event) -> Repl
 pub fn step(state: State, e: Event) -> Reply
     ensures { λ r. ⌜ r ≡ stepRule state e ⌝ }
 {
-    if soundness::is_sound(state) {
-        let setup = state.setup;
-        step_sound(state, input::names_of(setup), e)
+    let tested = soundness::test(state);
+    if tested.passes {
+        let named = tested.named;
+        step_sound(state, named, e)
     } else {
         Reply { answer: 9, state }
     }

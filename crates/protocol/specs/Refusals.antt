@@ -1,7 +1,7 @@
 -- Document 01, 'The clock' and 'Numbers handed back': the clock step, and the refusals 9 to 25 in the list's order.
 use Prim.Native.Nat.{ℕ, _+_, _-_, _%_}
 use mathlib.Core.Bool.{Bool, not, _&&_, _||_}
-use mathlib.Core.List.{List, []}
+use mathlib.Core.List.{List, [], _++_}
 use lib.Dec.{leb, ltb}
 use Rattle.search.specs.Words.{_is_, _isn't_}
 use Rattle.search.specs.Below.{anyBelow}
@@ -22,9 +22,13 @@ use Rattle.protocol.specs.declared.State.{State}
 abbrev pub ticks : ℕ
 ticks = 65536
 
--- the new tick minus the last accepted one, modulo 65,536; and the exact clock after it
+-- from a clock to the console's tick: the new tick minus the last accepted one, modulo 65,536
+abbrev pub ticksTo : ℕ → ℕ → ℕ
+ticksTo clock tick = (tick + ticks - clock % ticks) % ticks
+
+-- the step of an event, and the exact clock after it
 abbrev pub stepOf : State → Event → ℕ
-stepOf s e = (e .tick + ticks - s .clock % ticks) % ticks
+stepOf s e = ticksTo (s .clock) (e .tick)
 
 abbrev pub clockAfter : State → Event → ℕ
 clockAfter s e = s .clock + stepOf s e
@@ -36,19 +40,26 @@ module _ (c : SetUp) (s : State) (t r : ℕ) where
       (kind c r is long && kind c (request s t i) is short)
       || (kind c (request s t i) is kind c r && groupOf c (request s t i) isn't groupOf c r))
 
+-- the refusals of an event by its fields alone, among so many tasks and resources
+abbrev pub fieldRows : ℕ → ℕ → Event → List Row
+fieldRows tasks resources e =
+    let uses = fieldsOf (e .kind) in
+    10 when not (within arrival (e .kind) passing) otherwise
+    11 when uses .task && leb tasks (e .task) otherwise
+    12 when uses .resource && leb resources (e .resource) otherwise
+    13 when (not (uses .task) && e .task isn't 0) || (not (uses .resource) && e .resource isn't 0) otherwise
+    []
+
 unfoldable pub eventRows : State → Event → List Row
 eventRows s e =
     let c = s .setup in
     let t = e .task in
     let r = e .resource in
-    let uses = fieldsOf (e .kind) in
     let acts = within finish (e .kind) completion in
     let hinders = hindrance (situation s t) in
     9 when not (sound s) otherwise
-    10 when not (within arrival (e .kind) passing) otherwise
-    11 when uses .task && leb (c .tasks) t otherwise
-    12 when uses .resource && leb (c .resources) r otherwise
-    13 when (not (uses .task) && t isn't 0) || (not (uses .resource) && r isn't 0) otherwise
+    -- 10 to 13, by the fields alone
+    fieldRows (c .tasks) (c .resources) e ++ (
     14 when leb 32768 (stepOf s e) otherwise
     15 when ltb lastClock (clockAfter s e) otherwise
     16 when e .kind is arrival && stand s t isn't absent otherwise
@@ -61,7 +72,7 @@ eventRows s e =
     23 when e .kind is asking && misplaced c s t r otherwise
     24 when e .kind is asking && depth s t is mostRequests otherwise
     25 when e .kind is completion && (depth s t is 0 || request s t (depth s t - 1) isn't r) otherwise
-    []
+    [])
 
 -- the first refusal that applies, or 0
 unfoldable pub judge : State → Event → ℕ

@@ -1,7 +1,5 @@
 // Each group's holder and queue.
 use crate::tables::asked_of;
-use crate::tables::number_at;
-use crate::tables::request_at;
 use crate::tables::stand_at;
 use crate::tables::stands_of;
 use input::SetUp;
@@ -35,7 +33,7 @@ fn some_in(
 {
     let mut some = false;
     for i in 0..depth {
-        some = some | (number_at(groups, request_at(requests, i)) == g);
+        some = some | (views::number_at(groups, views::request_at(requests, i)) == g);
     }
     some
 }
@@ -56,7 +54,7 @@ fn all_wait_here(
         let t = queue.waiter(i);
         ok = ok
             & ((Task::SPINNING <= stand_at(stands, t))
-                & (number_at(groups, number_at(asked, t)) == g));
+                & (views::number_at(groups, views::number_at(asked, t)) == g));
     }
     ok
 }

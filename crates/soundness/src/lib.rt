@@ -1,4 +1,6 @@
 // The sound state, clause by clause, as a test of any content.
+use input::SetUp;
+
 mod groups;
 mod requests;
 mod tables;
@@ -6,3 +8,10 @@ mod tasks;
 mod testing;
 
 pub use testing::is_sound;
+pub use testing::test;
+
+// Whether a state passes the test, and the names of its groups.
+pub struct Tested {
+    pub passes: bool,
+    pub named: [u8; SetUp::RESOURCES],
+}

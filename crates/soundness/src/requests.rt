@@ -1,6 +1,4 @@
 // Each job's open requests, and what a waiting job asked for.
-use crate::tables::number_at;
-use crate::tables::request_at;
 use input::SetUp;
 use protocol::State;
 use protocol::Task;
@@ -33,8 +31,10 @@ fn all_held(
 {
     let mut ok = true;
     for i in 0..depth {
-        let r = request_at(requests, i);
-        ok = ok & (((r as usize) < resources) & (number_at(holders, number_at(groups, r)) == t));
+        let r = views::request_at(requests, i);
+        ok = ok
+            & (((r as usize) < resources)
+                & (views::number_at(holders, views::number_at(groups, r)) == t));
     }
     ok
 }
@@ -44,10 +44,10 @@ fn is_once(requests: [u8; Task::REQUESTS], depth: usize, i: usize) -> bool
     requires { ⌜ depth ≤ mostRequests ⌝ }
     ensures { λ r. ⌜ r ≡ isOnce requests depth i ⌝ }
 {
-    let r = request_at(requests, i);
+    let r = views::request_at(requests, i);
     let mut ok = true;
     for k in 0..depth {
-        ok = ok & ((r != request_at(requests, k)) | (i == k));
+        ok = ok & ((r != views::request_at(requests, k)) | (i == k));
     }
     ok
 }
@@ -70,7 +70,7 @@ fn longs_before(kinds: [u8; SetUp::RESOURCES], requests: [u8; Task::REQUESTS], i
 {
     let mut ok = true;
     for k in 0..i {
-        ok = ok & (views::kind_at(kinds, request_at(requests, k)) == SetUp::LONG);
+        ok = ok & (views::kind_at(kinds, views::request_at(requests, k)) == SetUp::LONG);
     }
     ok
 }
@@ -85,7 +85,7 @@ fn all_longs_first(
 {
     let mut ok = true;
     for i in 0..depth {
-        let is_long = views::kind_at(kinds, request_at(requests, i)) == SetUp::LONG;
+        let is_long = views::kind_at(kinds, views::request_at(requests, i)) == SetUp::LONG;
         ok = ok & (!is_long | longs_before(kinds, requests, i));
     }
     ok
@@ -102,13 +102,13 @@ fn is_together(
     requires { ⌜ depth ≤ mostRequests ⌝ }
     ensures { λ r. ⌜ r ≡ isTogether kinds groups requests depth i ⌝ }
 {
-    let a = request_at(requests, i);
+    let a = views::request_at(requests, i);
     let mut ok = true;
     for k in 0..depth {
-        let b = request_at(requests, k);
+        let b = views::request_at(requests, k);
         ok = ok
             & ((views::kind_at(kinds, a) != views::kind_at(kinds, b))
-                | (number_at(groups, a) == number_at(groups, b)));
+                | (views::number_at(groups, a) == views::number_at(groups, b)));
     }
     ok
 }
@@ -188,7 +188,7 @@ fn none_of(
 {
     let mut ok = true;
     for i in 0..depth {
-        ok = ok & (views::kind_at(kinds, request_at(requests, i)) != kind);
+        ok = ok & (views::kind_at(kinds, views::request_at(requests, i)) != kind);
     }
     ok
 }
@@ -209,7 +209,7 @@ fn waiting_holds(state: State, groups: [u8; SetUp::RESOURCES], t: u8) -> bool
     let asked = views::asked_of(standing);
     let kind = views::kind_at(kinds, asked);
     let all = state.groups;
-    let group = views::group_at(all, number_at(groups, asked) as usize);
+    let group = views::group_at(all, views::number_at(groups, asked) as usize);
     let queue = group.queue;
     let requests = task.requests;
     let depth = task.depth;

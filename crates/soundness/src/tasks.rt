@@ -1,5 +1,4 @@
 // Times, totals and empty places of each task.
-use crate::tables::request_at;
 use input::SetUp;
 use protocol::State;
 use protocol::Task;
@@ -30,13 +29,6 @@ fn elapsed(start: u32, clock: u32) -> u64
     }
 }
 
-fn period_at(periods: [u16; SetUp::TASKS], t: u8) -> u16
-    ensures { λ r. ⌜ r ≡ getD periods t 0 ⌝ }
-{
-    let i = t as usize;
-    if i < SetUp::TASKS { periods[i] } else { 0 }
-}
-
 fn times_hold(state: State, t: u8) -> bool
     ensures { λ r. ⌜ r ≡ timesSound (state .setup) state t ⌝ }
 {
@@ -47,7 +39,7 @@ fn times_hold(state: State, t: u8) -> bool
     let standing = task.standing;
     let totals = task.totals;
     let stand = views::stand_of(standing);
-    let due = (task.last as u64) + (period_at(periods, t) as u64);
+    let due = (task.last as u64) + (views::period_at(periods, t) as u64);
     let between = !task.arrived | ((setup.start <= task.last) & (task.last <= state.clock));
     let dated = (stand == Task::ABSENT) | (task.arrived & (task.deadline == due));
     let undated = (stand != Task::ABSENT) | (task.deadline == 0);
@@ -70,7 +62,7 @@ fn requests_end(requests: [u8; Task::REQUESTS], depth: usize) -> bool
 {
     let mut ok = true;
     for i in 0..Task::REQUESTS {
-        ok = ok & (!(depth <= i) | (request_at(requests, i) == Task::NOTHING));
+        ok = ok & (!(depth <= i) | (views::request_at(requests, i) == Task::NOTHING));
     }
     ok
 }

@@ -1,13 +1,15 @@
 // The sound state.
+use crate::Tested;
 use crate::groups::all_groups;
 use crate::requests::all_requests;
 use crate::requests::all_waiting;
-use crate::tables::holders_of;
 use crate::tasks::all_empty;
 use crate::tasks::all_times;
+use input::SetUp;
 use protocol::State;
 ghost use mathlib.Core.Path.{_≡_};
 ghost use mathlib.Core.Bool.{true};
+ghost use Rattle.input.specs.Naming.{names};
 ghost use Rattle.protocol.specs.Sound.{sound};
 ghost use Rattle.soundness.specs.Parts.{frameSound, locksSound, placementSound};
 
@@ -22,16 +24,15 @@ fn frame_holds(state: State) -> bool
         & all_times(state)
 }
 
-// The open requests, the waiting jobs and the groups.
-fn locks_hold(state: State) -> bool
+// The open requests, the waiting jobs and the groups, which are `named`.
+fn locks_hold(state: State, named: [u8; SetUp::RESOURCES]) -> bool
+    requires { ⌜ named ≡ names (state .setup) ⌝ }
     ensures { λ r. ⌜ r ≡ locksSound state ⌝ }
 {
-    let setup = state.setup;
-    let names = input::names_of(setup);
     let groups = state.groups;
-    let holders = holders_of(groups);
-    if all_requests(state, names, holders) {
-        all_waiting(state, names) & all_groups(state, names)
+    let holders = views::holders_of(groups);
+    if all_requests(state, named, holders) {
+        all_waiting(state, named) & all_groups(state, named)
     } else {
         false
     }
@@ -47,11 +48,13 @@ fn placement_holds(state: State) -> bool
     (p.count == setup.processors) & placement::is_placed(p, views::jobs_of(state))
 }
 
-pub fn is_sound(state: State) -> bool
+// Every clause; the groups are `named`.
+fn all_hold(state: State, named: [u8; SetUp::RESOURCES]) -> bool
+    requires { ⌜ named ≡ names (state .setup) ⌝ }
     ensures { λ r. ⌜ r ≡ sound state ⌝ }
 {
     if frame_holds(state) {
-        if locks_hold(state) {
+        if locks_hold(state, named) {
             placement_holds(state) & all_empty(state)
         } else {
             false
@@ -59,4 +62,22 @@ pub fn is_sound(state: State) -> bool
     } else {
         false
     }
+}
+
+// The test, and the names that it was made with.
+pub fn test(state: State) -> Tested
+    ensures { λ r. ⌜ r ≡ record { passes = sound state; named = names (state .setup) } ⌝ }
+{
+    let setup = state.setup;
+    let named = input::names_of(setup);
+    Tested {
+        passes: all_hold(state, named),
+        named,
+    }
+}
+
+pub fn is_sound(state: State) -> bool
+    ensures { λ r. ⌜ r ≡ sound state ⌝ }
+{
+    test(state).passes
 }

@@ -1,12 +1,12 @@
 // Priorities, and the view of jobs that the scheduler is told.
-use crate::standings::kind_at;
 use crate::standings::mode_for;
 use crate::standings::no_group;
+use crate::tables::holders_of;
+use crate::tables::kind_at;
 use input::SetUp;
 use processors::Job;
 use processors::Jobs;
 use processors::Mode;
-use processors::Processors;
 use protocol::Group;
 use protocol::State;
 use protocol::Task;
@@ -22,7 +22,7 @@ ghost use Rattle.queue.specs.Waiting.{waiter};
 ghost use Rattle.input.specs.Limits.{mostTasks, mostResources, short};
 ghost use Rattle.protocol.specs.Words.{mostRequests, nobody, noTask, noGroup};
 ghost use Rattle.protocol.specs.Ranks.{leastOf, jobs};
-ghost use Rattle.views.specs.Bounds.{latest, taskBounded, queueBounded, isBounded, noJobs, jobsWithin, ownIn, holderIn, rankAt, heldBy, jobWith};
+ghost use Rattle.views.specs.Bounds.{latest, taskBounded, queueBounded, isBounded, noJobs, jobsWithin, ownIn, rankAt, heldBy, jobWith};
 
 // No deadline of a sound state is past this.
 const LATEST: u64 = 1099511627776;
@@ -108,17 +108,6 @@ fn least_waiting(ranks: [u64; SetUp::TASKS], queue: Queue, rank: u64) -> u64
         best = least(rank_at(ranks, queue.waiter(i)), best);
     }
     best
-}
-
-fn holders_of(groups: [Group; SetUp::RESOURCES]) -> [u8; SetUp::RESOURCES]
-    ensures { λ r. ⌜ r ≡ table (holderIn groups) mostResources ⌝ }
-{
-    let mut holders = [Processors::NOBODY; SetUp::RESOURCES];
-    for g in 0..SetUp::RESOURCES {
-        let group = groups[g];
-        holders[g] = group.holder;
-    }
-    holders
 }
 
 // The long group that `t` holds, or `resources`.

@@ -59,14 +59,6 @@ pub fn mode_for(standing: Standing, holds: bool) -> Mode
     }
 }
 
-// The kind of resource `r`; short past the table.
-pub fn kind_at(kinds: [u8; SetUp::RESOURCES], r: u8) -> u8
-    ensures { λ k. ⌜ k ≡ getD kinds r 0 ⌝ }
-{
-    let i = r as usize;
-    if i < SetUp::RESOURCES { kinds[i] } else { 0 }
-}
-
 pub fn no_task() -> Task
     ensures { λ r. ⌜ r ≡ noTask ⌝ }
 {

@@ -24,8 +24,8 @@ task-at-requires c κs = search needs
 kind-at-requires : tie.Need-kind-at-requires
 kind-at-requires c κs = search needs
 
-name-at-requires : tie.Need-name-at-requires
-name-at-requires c κs = search needs
+number-at-requires : tie.Need-number-at-requires
+number-at-requires c κs = search needs
 
 cast-group-at : tie.Need-cast-group-at
 cast-group-at c = search needs
@@ -42,10 +42,10 @@ complete-short-requires c κs =
     let start = c .before .before .before .before .before .before .before .before .before .before .before .before .before .before .before in
     let close-request = c .before .before .before .before .before .before .before .before .before .before .before .close-request in
     let group-at = c .before .before .before .before .before .group-at in
-    let name-at = c .before .before .before .before .before .before .name-at in
+    let number-at = c .before .before .before .before .before .before .number-at in
     let s = start .args .state in
     let can = start .pre .1 in
-    rw (close-request .ensures, group-at .ensures, name-at .ensures, start .pre .0)
+    rw (close-request .ensures, group-at .ensures, number-at .ensures, start .pre .0)
     (can .placed, λ h. closes-pass s (start .args .t) (groupOf (s .setup) (start .args .r)) (can .next (omega (arith, eqb-false (len s (groupOf (s .setup) (start .args .r))) 0 h))))
 
 first-requires : tie.Need-first-requires
@@ -57,10 +57,10 @@ complete-long-requires c κs =
     let start = c .before .before .before .before .before .before .before .before .before .before .before .before .before .before .before .before in
     let close-request = c .before .before .before .before .before .before .before .before .before .before .before .before .close-request in
     let group-at = c .before .before .before .before .before .before .group-at in
-    let name-at = c .before .before .before .before .before .before .before .name-at in
+    let number-at = c .before .before .before .before .before .before .before .number-at in
     let s = start .args .state in
     let can = start .pre .1 in
-    rw (close-request .ensures, group-at .ensures, name-at .ensures, start .pre .0)
+    rw (close-request .ensures, group-at .ensures, number-at .ensures, start .pre .0)
     (closes-bounded s (can .bounded) (start .args .t) (can .inside), can .placed, λ h. closes-pass s (start .args .t) (groupOf (s .setup) (start .args .r)) (can .next (omega (arith, eqb-false (len s (groupOf (s .setup) (start .args .r))) 0 h))))
 
 returns : tie.Need-returns
@@ -85,10 +85,10 @@ returns-2 c =
     let close-request = c .before .before .before .before .before .before .before .before .before .before .before .before .close-request in
     let if1 = c .before .before .if1 in
     let group-at = c .before .before .before .before .before .before .group-at in
-    let name-at = c .before .before .before .before .before .before .before .name-at in
+    let number-at = c .before .before .before .before .before .before .before .number-at in
     let s = start .args .state in
     let h = rw (has-kind .ensures, kind-at .ensures, task-at .ensures, close-request .ensures) at (if1 .left) in
-    rw (c .complete-short .ensures, close-request .ensures, group-at .ensures, name-at .ensures, start .pre .0)
+    rw (c .complete-short .ensures, close-request .ensures, group-at .ensures, number-at .ensures, start .pre .0)
     (sym (complete-short (s .setup) (start .args .t) (start .args .r) s h (sym (kind-at .ensures) ∙ c .before .if2 .taken)))
 
 returns-3 : tie.Need-returns-3
@@ -101,11 +101,11 @@ returns-3 c =
     let close-request = c .before .before .before .before .before .before .before .before .before .before .before .before .before .close-request in
     let if1 = c .before .before .before .if1 in
     let group-at = c .before .before .before .before .before .before .before .group-at in
-    let name-at = c .before .before .before .before .before .before .before .before .name-at in
+    let number-at = c .before .before .before .before .before .before .before .before .number-at in
     let if2 = c .before .before .if2 in
     let s = start .args .state in
     let h = rw (has-kind .ensures, kind-at .ensures, task-at .ensures, close-request .ensures) at (if1 .left) in
-    rw (c .complete-long .ensures, close-request .ensures, c .before .first .ensures, group-at .ensures, name-at .ensures, start .pre .0)
+    rw (c .complete-long .ensures, close-request .ensures, c .before .first .ensures, group-at .ensures, number-at .ensures, start .pre .0)
     (sym (complete-long (s .setup) (start .args .t) (start .args .r) s h (λ e. if2 .left (kind-at .ensures ∙ e))))
 
 pub complete-spec : {M : Type 1} → statement M
@@ -115,7 +115,7 @@ complete-spec =
     close-request-requires
     task-at-requires
     kind-at-requires
-    name-at-requires
+    number-at-requires
     cast-group-at
     group-at-requires
     has-kind-requires

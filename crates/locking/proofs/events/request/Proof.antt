@@ -14,8 +14,8 @@ task-at-requires c κs = search needs
 kind-at-requires : tie.Need-kind-at-requires
 kind-at-requires c κs = search needs
 
-name-at-requires : tie.Need-name-at-requires
-name-at-requires c κs = search needs
+number-at-requires : tie.Need-number-at-requires
+number-at-requires c κs = search needs
 
 cast-group-at : tie.Need-cast-group-at
 cast-group-at c = search needs
@@ -30,27 +30,27 @@ open-request-requires : tie.Need-open-request-requires
 unfolding groupOf
 open-request-requires c κs =
     let start = c .before .before .before .before .before .before .before .before .before .before .before .before in
-    let name-at = c .before .before .before .before .name-at in
+    let number-at = c .before .before .before .before .number-at in
     let can = start .pre .1 in
-    rw (name-at .ensures, start .pre .0) (can .inside, can .placed, can .room)
+    rw (number-at .ensures, start .pre .0) (can .inside, can .placed, can .room)
 
 queue-request-requires : tie.Need-queue-request-requires
 unfolding groupOf
 queue-request-requires c κs =
     let start = c .before .before .before .before .before .before .before .before .before .before .before .before in
-    let name-at = c .before .before .before .before .name-at in
+    let number-at = c .before .before .before .before .number-at in
     let kind-at = c .before .before .before .before .before .kind-at in
     let can = start .pre .1 in
-    rw (name-at .ensures, start .pre .0) (can .inside, can .placed, kind-at .ensures)
+    rw (number-at .ensures, start .pre .0) (can .inside, can .placed, kind-at .ensures)
 
 leave-requires : tie.Need-leave-requires
 unfolding groupOf
 leave-requires c κs =
     let start = c .before .before .before .before .before .before .before .before .before .before .before .before .before .before in
-    let name-at = c .before .before .before .before .before .before .name-at in
+    let number-at = c .before .before .before .before .before .before .number-at in
     let s = start .args .state in
     let can = start .pre .1 in
-    rw (c .before .queue-request .ensures, name-at .ensures, start .pre .0)
+    rw (c .before .queue-request .ensures, number-at .ensures, start .pre .0)
     (queues-bounded s (can .bounded) (groupOf (s .setup) (start .args .r)) (can .placed) (s .setup) (start .args .t) (start .args .r) (can .inside))
 
 returns : tie.Need-returns
@@ -61,10 +61,10 @@ returns c =
     let kind-at = c .before .before .before .before .before .before .kind-at in
     let task-at = c .before .before .before .before .before .before .before .before .task-at in
     let group-at = c .before .before .before .before .group-at in
-    let name-at = c .before .before .before .before .before .name-at in
+    let number-at = c .before .before .before .before .before .number-at in
     let s = start .args .state in
-    let h = rw (has-kind .ensures, kind-at .ensures, task-at .ensures, group-at .ensures, name-at .ensures, start .pre .0) at (c .before .if1 .taken) in
-    rw (c .open-request .ensures, name-at .ensures, start .pre .0)
+    let h = rw (has-kind .ensures, kind-at .ensures, task-at .ensures, group-at .ensures, number-at .ensures, start .pre .0) at (c .before .if1 .taken) in
+    rw (c .open-request .ensures, number-at .ensures, start .pre .0)
     (sym (request-open (s .setup) (start .args .t) (start .args .r) s h))
 
 returns-2 : tie.Need-returns-2
@@ -75,11 +75,11 @@ returns-2 c =
     let kind-at = c .before .before .before .before .before .before .before .kind-at in
     let task-at = c .before .before .before .before .before .before .before .before .before .task-at in
     let group-at = c .before .before .before .before .before .group-at in
-    let name-at = c .before .before .before .before .before .before .name-at in
+    let number-at = c .before .before .before .before .before .before .number-at in
     let if1 = c .before .before .if1 in
     let s = start .args .state in
-    let h = rw (has-kind .ensures, kind-at .ensures, task-at .ensures, group-at .ensures, name-at .ensures, start .pre .0) at (if1 .left) in
-    rw (c .before .queue-request .ensures, name-at .ensures, start .pre .0)
+    let h = rw (has-kind .ensures, kind-at .ensures, task-at .ensures, group-at .ensures, number-at .ensures, start .pre .0) at (if1 .left) in
+    rw (c .before .queue-request .ensures, number-at .ensures, start .pre .0)
     (sym (request-spin (s .setup) (start .args .t) (start .args .r) s h (sym (kind-at .ensures) ∙ c .if2 .taken)))
 
 returns-3 : tie.Need-returns-3
@@ -90,12 +90,12 @@ returns-3 c =
     let kind-at = c .before .before .before .before .before .before .before .before .kind-at in
     let task-at = c .before .before .before .before .before .before .before .before .before .before .task-at in
     let group-at = c .before .before .before .before .before .before .group-at in
-    let name-at = c .before .before .before .before .before .before .before .name-at in
+    let number-at = c .before .before .before .before .before .before .before .number-at in
     let if1 = c .before .before .before .if1 in
     let queue-request = c .before .before .queue-request in
     let s = start .args .state in
-    let h = rw (has-kind .ensures, kind-at .ensures, task-at .ensures, group-at .ensures, name-at .ensures, start .pre .0) at (if1 .left) in
-    rw (c .leave .ensures, queue-request .ensures, name-at .ensures, start .pre .0)
+    let h = rw (has-kind .ensures, kind-at .ensures, task-at .ensures, group-at .ensures, number-at .ensures, start .pre .0) at (if1 .left) in
+    rw (c .leave .ensures, queue-request .ensures, number-at .ensures, start .pre .0)
     (sym (request-wait (s .setup) (start .args .t) (start .args .r) s h (λ e. c .before .if2 .left (kind-at .ensures ∙ e))))
 
 pub request-spec : {M : Type 1} → statement M
@@ -104,7 +104,7 @@ request-spec =
     (tie.spec
     task-at-requires
     kind-at-requires
-    name-at-requires
+    number-at-requires
     cast-group-at
     group-at-requires
     has-kind-requires

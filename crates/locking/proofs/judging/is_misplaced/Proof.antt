@@ -20,12 +20,12 @@ abbrev μ-loop : tie.MeasureT-loop
 kind-at-requires : tie.Need-kind-at-requires Inv-loop μ-loop
 kind-at-requires c κs = search needs
 
-name-at-requires : tie.Need-name-at-requires Inv-loop μ-loop
-name-at-requires c κs = search needs
+number-at-requires : tie.Need-number-at-requires Inv-loop μ-loop
+number-at-requires c κs = search needs
 
 loop-holds : tie.Need-loop-holds Inv-loop μ-loop
 unfolding anyBelow
-loop-holds c = (search needs, c .before .kind-at .ensures, c .name-at .ensures, refl)
+loop-holds c = (search needs, c .before .kind-at .ensures, c .number-at .ensures, refl)
 
 request-at-requires : tie.Need-request-at-requires Inv-loop μ-loop
 request-at-requires c κs = search needs
@@ -33,8 +33,8 @@ request-at-requires c κs = search needs
 kind-at-requires-2 : tie.Need-kind-at-requires-2 Inv-loop μ-loop
 kind-at-requires-2 c κs = search needs
 
-name-at-requires-2 : tie.Need-name-at-requires-2 Inv-loop μ-loop
-name-at-requires-2 c κs = search needs
+number-at-requires-2 : tie.Need-number-at-requires-2 Inv-loop μ-loop
+number-at-requires-2 c κs = search needs
 
 add-i : tie.Need-add-i Inv-loop μ-loop
 add-i c = search needs
@@ -46,7 +46,7 @@ loop-again : tie.Need-loop-again Inv-loop μ-loop
 unfolding anyBelow
 loop-again c =
     let a = c .before .before .before .before .loop .inv in
-    (search needs, a .1, a .2, rw (add-one, a .3, c .name-at2 .ensures, c .before .kind-at2 .ensures, c .before .before .request-at .ensures, a .1, a .2))
+    (search needs, a .1, a .2, rw (add-one, a .3, c .number-at2 .ensures, c .before .kind-at2 .ensures, c .before .before .request-at .ensures, a .1, a .2))
 
 returns : tie.Need-returns Inv-loop μ-loop
 returns c =
@@ -60,11 +60,11 @@ is-misplaced-spec =
     Inv-loop
     μ-loop
     kind-at-requires
-    name-at-requires
+    number-at-requires
     loop-holds
     request-at-requires
     kind-at-requires-2
-    name-at-requires-2
+    number-at-requires-2
     add-i
     loop-less
     loop-again

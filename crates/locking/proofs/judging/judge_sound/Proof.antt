@@ -2,12 +2,13 @@
 use Prim.Native.Nat.{ℕ, _+_, _-_}
 use mathlib.Core.Path.{_≡_}
 use mathlib.Core.Bool.{Bool, true, _&&_, _||_}
-use mathlib.Core.List.{List}
+use mathlib.Core.List.{List, [], _++_}
 use lib.Dec.{leb, ltb}
 use lib.ListN.{getD}
 use borrow.Author.Needs.{needs}
 use Rattle.search.specs.Words.{if_then_else_, _is_, _isn't_}
 use Rattle.search.specs.Below.{anyBelow}
+use Rattle.search.specs.Rows.{_when_, _otherwise_, firstOf}
 use Rattle.input.specs.Words.{period}
 use Rattle.input.specs.Refusals.{within}
 use Rattle.input.specs.Naming.{names, groupOf}
@@ -16,11 +17,11 @@ use Rattle.input.specs.declared.Event.{Event}
 use Rattle.protocol.specs.Words.{mostRequests, nobody, lastClock, absent, standingNo, task, stand, depth, request}
 use Rattle.protocol.specs.Situations.{situationOf, situation, hindrance}
 use Rattle.protocol.specs.Sound.{sound}
-use Rattle.protocol.specs.Refusals.{misplaced, eventRows, judge}
+use Rattle.protocol.specs.Refusals.{ticksTo, misplaced, fieldRows, eventRows, judge}
 use Rattle.protocol.specs.declared.Task.{Task}
 use Rattle.protocol.specs.declared.Situation.{Situation}
 use Rattle.protocol.specs.declared.State.{State}
-use Rattle.locking.specs.Steps.{ticksTo, isApart, fieldRows}
+use Rattle.locking.specs.Steps.{isApart}
 use Rattle.locking.proofs.judging.judge_sound.Statement.{statement}
 use Rattle.locking.proofs.judging.judge_sound.Tie as tie
 
@@ -49,7 +50,7 @@ judged : (s : State) (named : List ℕ) (e : Event) {k : Task} {x : Situation} {
     → r15 ≡ (if ltb lastClock now then 15 else r16)
     → step ≡ ticksTo (s .clock) (e .tick)
     → r14 ≡ (if leb 32768 step then 14 else r15)
-    → r ≡ fieldRows (s .setup .tasks) (s .setup .resources) e r14
+    → r ≡ firstOf (fieldRows (s .setup .tasks) (s .setup .resources) e ++ (r14 when true otherwise []))
     → r ≡ judge s e
 unfolding judge eventRows stand depth request situation misplaced groupOf
 judged s named e pre k st x hin now per new r25 r24 mis r23 seen r22 r21 r20 r19 r18 r17 r16 r15 step r14 r =

@@ -3,20 +3,17 @@ use borrow.Author.Needs.{needs}
 use Rattle.soundness.proofs.testing.locks_hold.Statement.{statement}
 use Rattle.soundness.proofs.testing.locks_hold.Tie as tie
 
-names-of-requires : tie.Need-names-of-requires
-names-of-requires c κs = search needs
-
 holders-of-requires : tie.Need-holders-of-requires
 holders-of-requires c κs = search needs
 
 all-requests-requires : tie.Need-all-requests-requires
-all-requests-requires c κs = (c .before .before .names-of .ensures, c .holders-of .ensures)
+all-requests-requires c κs = (c .before .before .pre, c .holders-of .ensures)
 
 all-waiting-requires : tie.Need-all-waiting-requires
-all-waiting-requires c κs = (c .before .before .before .before .names-of .ensures, sym (c .before .all-requests .ensures) ∙ c .if1 .taken)
+all-waiting-requires c κs = (c .before .before .before .before .pre, sym (c .before .all-requests .ensures) ∙ c .if1 .taken)
 
 all-groups-requires : tie.Need-all-groups-requires
-all-groups-requires c κs = (c .before .before .before .before .before .names-of .ensures, sym (c .before .before .all-requests .ensures) ∙ c .before .if1 .taken)
+all-groups-requires c κs = (c .before .before .before .before .before .pre, sym (c .before .before .all-requests .ensures) ∙ c .before .if1 .taken)
 
 returns : tie.Need-returns
 returns c = rw (← c .before .before .before .all-requests .ensures, c .before .before .if1 .taken, c .all-groups .ensures, c .before .all-waiting .ensures)
@@ -28,7 +25,6 @@ pub locks-hold-spec : {M : Type 1} → statement M
 locks-hold-spec =
     tie.close
     (tie.spec
-    names-of-requires
     holders-of-requires
     all-requests-requires
     all-waiting-requires

@@ -4,8 +4,8 @@ use lib.ListN.{List·getD-eq-default}
 use borrow.Author.Needs.{needs}
 use Rattle.search.proofs.Tables.{getD-any}
 use Rattle.protocol.specs.Words.{nobody}
-use Rattle.soundness.proofs.tables.number_at.Statement.{statement}
-use Rattle.soundness.proofs.tables.number_at.Tie as tie
+use Rattle.views.proofs.tables.number_at.Statement.{statement}
+use Rattle.views.proofs.tables.number_at.Tie as tie
 
 array-read-result : tie.Need-array-read-result
 array-read-result c = search needs

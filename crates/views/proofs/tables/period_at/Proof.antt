@@ -2,8 +2,8 @@
 use mathlib.Core.Path.{sym}
 use lib.ListN.{List·getD-eq-default}
 use borrow.Author.Needs.{needs}
-use Rattle.soundness.proofs.tasks.period_at.Statement.{statement}
-use Rattle.soundness.proofs.tasks.period_at.Tie as tie
+use Rattle.views.proofs.tables.period_at.Statement.{statement}
+use Rattle.views.proofs.tables.period_at.Tie as tie
 
 mul-result : tie.Need-mul-result
 mul-result c = search needs

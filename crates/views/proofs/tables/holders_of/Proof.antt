@@ -11,8 +11,8 @@ use Rattle.input.specs.Limits.{mostResources}
 use Rattle.protocol.specs.Words.{nobody}
 use Rattle.views.specs.Bounds.{holderIn}
 use Rattle.views.proofs.Reading.{group-read}
-use Rattle.views.proofs.ranks.holders_of.Statement.{statement}
-use Rattle.views.proofs.ranks.holders_of.Tie as tie
+use Rattle.views.proofs.tables.holders_of.Statement.{statement}
+use Rattle.views.proofs.tables.holders_of.Tie as tie
 
 abbrev Inv-loop : tie.InvT-loop
 Inv-loop groups holders₀ g₀ holders g = (g ≤ mostResources) × (holders ≡ table (holderIn groups) g ++ drop g holders₀)

@@ -2,8 +2,8 @@
 use mathlib.Core.Path.{sym}
 use lib.ListN.{List·getD-eq-default}
 use borrow.Author.Needs.{needs}
-use Rattle.views.proofs.standings.kind_at.Statement.{statement}
-use Rattle.views.proofs.standings.kind_at.Tie as tie
+use Rattle.views.proofs.tables.kind_at.Statement.{statement}
+use Rattle.views.proofs.tables.kind_at.Tie as tie
 
 array-read-result : tie.Need-array-read-result
 array-read-result c = search needs
