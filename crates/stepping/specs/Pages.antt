@@ -25,10 +25,13 @@ use Rattle.stepping.specs.declared.Page.{Page}
 abbrev pub wide : ℕ
 wide = 18446744073709551616
 
--- the lines of the first events of a part, numbered on from `events`
-abbrev pub eventsText : State → List ℕ → ℕ → ℕ → List ℕ
-eventsText s part events =
-    eachText (λ n. eventText ((events + suc n) % wide) (s .setup .processors) (lineOf (replyTo s part n .answer) (replyTo s part n .state .processors)))
+-- what is told of each event of a part
+abbrev pub told : State → List ℕ → ℕ → List ℕ
+told s part n = lineOf (replyTo s part n .answer) (replyTo s part n .state .processors)
+
+-- the lines of the first of some events, on so many processors, numbered on from `events`
+abbrev pub eventsText : (ℕ → List ℕ) → ℕ → ℕ → ℕ → List ℕ
+eventsText line processors events = eachText (λ n. eventText ((events + suc n) % wide) processors (line n))
 
 -- the lines of the first tasks
 abbrev pub tasksText : State → ℕ → List ℕ
@@ -55,7 +58,7 @@ module _ (x : Session) where
   abbrev pub eventPage : List ℕ → Session × List ℕ
   eventPage part = (
     record { index = x .index + 1; events = (x .events + eventCount part) % wide; is_over = false; state = playedTo (x .state) part (eventCount part) },
-    eventsText (x .state) part (x .events) (eventCount part),
+    eventsText (told (x .state) part) (x .state .setup .processors) (x .events) (eventCount part),
   )
 
   -- a refused block ends the output
@@ -79,8 +82,10 @@ module _ (x : Session) where
 abbrev pub pageLimit : ℕ
 pageLimit = mostEvents * lineLimit
 
--- the page into a buffer; in one that is too short nothing is written, and nothing goes on
+-- the page into a buffer
+unfoldable pub paged : Session × List ℕ → List ℕ → Page × List ℕ
+paged (x, text) out = (record { session = x; number = 0; len = length text }, written out 0 text)
+
+-- in a buffer that is too short nothing is written, and nothing goes on
 unfoldable pub pageInto : Session → List ℕ → List ℕ → Page × List ℕ
-pageInto x read out =
-    if ltb (length out) pageLimit then (record { session = x; number = 36; len = 0 }, out)
-    else (record { session = nextPage x read .0; number = 0; len = length (nextPage x read .1) }, written out 0 (nextPage x read .1))
+pageInto x read out = if ltb (length out) pageLimit then (record { session = x; number = 36; len = 0 }, out) else paged (nextPage x read) out

@@ -8,7 +8,13 @@ use blocks::Block;
 use blocks::Verdict;
 use input::SetUp;
 ghost use mathlib.Core.Path.{_≡_};
-ghost use Rattle.stepping.specs.Pages.{beginning, pageInto};
+ghost use Prim.Native.Nat.{_+_, _≤_, _<_};
+ghost use lib.ListN.{length};
+ghost use Rattle.input.specs.Layout.{setUpIn, eventCount};
+ghost use Rattle.protocol.specs.Events.{begin as beginRule};
+ghost use Rattle.blocks.specs.Sizes.{mostEvents};
+ghost use Rattle.blocks.specs.Verdicts.{verdict};
+ghost use Rattle.stepping.specs.Pages.{beginning, wide, ended as endedHere, setUpPage, eventPage, blockPage, lastPage, pageLimit, paged, pageInto};
 
 // Before the first block.
 pub fn begin() -> Session
@@ -23,7 +29,9 @@ pub fn begin() -> Session
 }
 
 // The page that ends the output.
-fn ended(x: Session, len: usize) -> Page {
+fn ended(x: Session, len: usize) -> Page
+    ensures { λ r. ⌜ r ≡ record { session = endedHere x; number = 0; len = len } ⌝ }
+{
     let state = x.state;
     let session = Session {
         index: x.index,
@@ -39,7 +47,10 @@ fn ended(x: Session, len: usize) -> Page {
 }
 
 // The first block gives a set-up: its first line, or its refusal.
-fn set_up_page(x: Session, part: &[u8], out: &mut [u8]) -> Page {
+fn set_up_page(x: Session, part: &[u8], out: &mut [u8]) -> Page
+    requires { ⌜ pageLimit ≤ length (now out) ⌝ }
+    ensures { λ r. ⌜ ((r, now (out .exit)) ≡ paged (setUpPage x (beginRule (setUpIn (now (part .entry))))) (now (out .entry))) × (r .len ≤ length (now (out .exit))) ⌝ }
+{
     let reply = locking::begin(input::set_up_from(part));
     if reply.answer != 0 {
         let line = lines::set_up_line(reply.answer, out);
@@ -62,7 +73,10 @@ fn set_up_page(x: Session, part: &[u8], out: &mut [u8]) -> Page {
 }
 
 // Every other block gives events: a line for each.
-fn event_page(x: Session, part: &[u8], out: &mut [u8]) -> Page {
+fn event_page(x: Session, part: &[u8], out: &mut [u8]) -> Page
+    requires { ⌜ (pageLimit ≤ length (now out)) × (eventCount (now part) ≤ mostEvents) × (x .index + 1 < wide) ⌝ }
+    ensures { λ r. ⌜ ((r, now (out .exit)) ≡ paged (eventPage x (now (part .entry))) (now (out .entry))) × (r .len ≤ length (now (out .exit))) ⌝ }
+{
     let before = x.state;
     let setup = before.setup;
     let mut written = [0u8; Block::MOST_EVENTS as usize * WRITTEN];
@@ -83,7 +97,10 @@ fn event_page(x: Session, part: &[u8], out: &mut [u8]) -> Page {
 }
 
 // A refused block ends the output.
-fn block_page(x: Session, block: &[u8], out: &mut [u8]) -> Page {
+fn block_page(x: Session, block: &[u8], out: &mut [u8]) -> Page
+    requires { ⌜ pageLimit ≤ length (now out) ⌝ }
+    ensures { λ r. ⌜ ((r, now (out .exit)) ≡ paged (blockPage x (now (block .entry)) (verdict (now (block .entry)) (x .index))) (now (out .entry))) × (r .len ≤ length (now (out .exit))) ⌝ }
+{
     let index = x.index;
     let verdict = blocks::judge(block, index);
     let Verdict::Used(_) = verdict else {
@@ -99,7 +116,10 @@ fn block_page(x: Session, block: &[u8], out: &mut [u8]) -> Page {
 }
 
 // The input's end: the totals of each task. At least one block is expected.
-fn last_page(x: Session, out: &mut [u8]) -> Page {
+fn last_page(x: Session, out: &mut [u8]) -> Page
+    requires { ⌜ pageLimit ≤ length (now out) ⌝ }
+    ensures { λ r. ⌜ ((r, now (out .exit)) ≡ paged (lastPage x) (now (out .entry))) × (r .len ≤ length (now (out .exit))) ⌝ }
+{
     if x.index == 0 {
         let line = lines::block_line(0, 30, out);
         return ended(x, line.len);
@@ -111,7 +131,7 @@ fn last_page(x: Session, out: &mut [u8]) -> Page {
 
 // What is printed once `read` was read: a block, or nothing at the input's end.
 pub fn next_page(x: Session, read: &[u8], out: &mut [u8]) -> Page
-    ensures { λ r. ⌜ (r, now (out .exit)) ≡ pageInto x (now (read .entry)) (now (out .entry)) ⌝ }
+    ensures { λ r. ⌜ ((r, now (out .exit)) ≡ pageInto x (now (read .entry)) (now (out .entry))) × (r .len ≤ length (now (out .exit))) ⌝ }
 {
     if out.len() < Page::LIMIT {
         return Page {
