@@ -24,7 +24,7 @@ fn main() {
     let mut session = stepping::begin();
     // One block more than there may be, and the input's end.
     let mut left = Block::LAST_INDEX + 3;
-    while left > 0 && !session.is_over {
+    while left > 0 && !session.over {
         let next = take_block(session, &mut block, &mut out);
         session = next;
         left -= 1;

@@ -39,25 +39,25 @@ tasksText s = eachText (λ t. taskLineText t (task s t .totals))
 
 -- before the first block
 unfoldable pub beginning : Session
-beginning = record { index = 0; events = 0; is_over = false; state = fresh noSetUp }
+beginning = record { index = 0; events = 0; over = false; state = fresh noSetUp }
 
 -- a page as the session after it and its text
 module _ (x : Session) where
   -- the output ends here
   abbrev pub ended : Session
-  ended = record { index = x .index; events = x .events; is_over = true; state = x .state }
+  ended = record { index = x .index; events = x .events; over = true; state = x .state }
 
   -- the first block gives a set-up: its first line, or its refusal
   abbrev pub setUpPage : Reply → Session × List ℕ
   setUpPage r =
       if r .answer is 0 then
-      (record { index = 1; events = 0; is_over = false; state = r .state }, firstText (r .state .setup .processors) (r .state .setup .tasks) (r .state .setup .start))
+      (record { index = 1; events = 0; over = false; state = r .state }, firstText (r .state .setup .processors) (r .state .setup .tasks) (r .state .setup .start))
       else (ended, setUpText (r .answer))
 
   -- every other block gives events: a line for each
   abbrev pub eventPage : List ℕ → Session × List ℕ
   eventPage part = (
-    record { index = x .index + 1; events = (x .events + eventCount part) % wide; is_over = false; state = playedTo (x .state) part (eventCount part) },
+    record { index = x .index + 1; events = (x .events + eventCount part) % wide; over = false; state = playedTo (x .state) part (eventCount part) },
     eventsText (told (x .state) part) (x .state .setup .processors) (x .events) (eventCount part),
   )
 
@@ -74,7 +74,7 @@ module _ (x : Session) where
   -- what is printed once `read` was read: a block, or nothing at the input's end
   unfoldable pub nextPage : List ℕ → Session × List ℕ
   nextPage read =
-      if x .is_over then (x, [])
+      if x .over then (x, [])
       else if length read is 0 then lastPage
       else blockPage read (verdict read (x .index))
 

@@ -12,7 +12,7 @@ use protocol::State;
 pub struct Session {
     pub index: u64,
     pub events: u64,
-    pub is_over: bool,
+    pub over: bool,
     pub state: State,
 }
 

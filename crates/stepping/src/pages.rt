@@ -23,7 +23,7 @@ pub fn begin() -> Session
     Session {
         index: 0,
         events: 0,
-        is_over: false,
+        over: false,
         state: locking::empty(),
     }
 }
@@ -36,7 +36,7 @@ fn ended(x: Session, len: usize) -> Page
     let session = Session {
         index: x.index,
         events: x.events,
-        is_over: true,
+        over: true,
         state,
     };
     Page {
@@ -62,7 +62,7 @@ fn set_up_page(x: Session, part: &[u8], out: &mut [u8]) -> Page
     let session = Session {
         index: 1,
         events: 0,
-        is_over: false,
+        over: false,
         state,
     };
     Page {
@@ -86,7 +86,7 @@ fn event_page(x: Session, part: &[u8], out: &mut [u8]) -> Page
     let session = Session {
         index: x.index + 1,
         events: std::num::wrapping_add_u64(x.events, count as u64),
-        is_over: false,
+        over: false,
         state,
     };
     Page {
@@ -140,7 +140,7 @@ pub fn next_page(x: Session, read: &[u8], out: &mut [u8]) -> Page
             len: 0,
         };
     }
-    if x.is_over {
+    if x.over {
         return Page {
             session: x,
             number: 0,
