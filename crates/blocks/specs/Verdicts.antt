@@ -8,7 +8,7 @@ use Rattle.search.specs.Words.{if_then_else_, _is_, _isn't_}
 use Rattle.search.specs.Below.{allBelow}
 use Rattle.search.specs.Rows.{Row, _when_, _otherwise_, firstOf}
 use Rattle.input.specs.Layout.{byte, word, periodsAt, kindsAt, pairsAt, setUpSize, eventSize}
-use Rattle.input.specs.Refusals.{within}
+use Rattle.input.specs.Words.{within}
 use Rattle.blocks.specs.Sizes.{kindAt, countAt, payloadAt, payloadSize, blockSize, lastIndex, numbers, setUpBlock, eventBlock, mostEvents}
 use Rattle.blocks.specs.Check.{isChecked}
 use Rattle.blocks.specs.declared.Verdict.{Verdict}

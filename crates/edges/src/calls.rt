@@ -6,6 +6,8 @@ use libc::STDOUT_FILENO;
 use lines::Line;
 use protocol::State;
 use protocol::Task;
+ghost use Prim.Native.Nat.{_<_, _≤_};
+ghost use Rattle.lines.specs.Lines.{lineLimit};
 
 // A buffer that is long enough for a line, and one that is not.
 const ENOUGH: usize = Line::LIMIT;
@@ -28,9 +30,9 @@ fn tell(call: u64, number: u8) {
 }
 
 // How many bytes are not as they were lent.
-fn changed(out: &[u8]) -> u64 {
+fn changed(out: [u8; ENOUGH]) -> u64 {
     let mut count = 0;
-    for i in 0..out.len() {
+    for i in 0..ENOUGH {
         if out[i] != LENT {
             count += 1;
         }
@@ -39,7 +41,7 @@ fn changed(out: &[u8]) -> u64 {
 }
 
 // A line's number and length, and how many bytes of the buffer were written.
-fn tell_line(call: u64, line: Line, out: &[u8]) {
+fn tell_line(call: u64, line: Line, out: [u8; ENOUGH]) {
     io::write_all(STDOUT_FILENO, b"call");
     print_number(call);
     print_number(line.number as u64);
@@ -68,37 +70,41 @@ fn printed_set_up(processors: usize) -> SetUp {
 }
 
 fn state_on(processors: usize) -> State {
-    let reply = locking::begin(printed_set_up(processors));
+    let reply = states::begin(printed_set_up(processors));
     reply.state
 }
 
 // The first line, an event's line and a task's line: of a state that is sound, or is not.
-fn state_lines(call: u64, state: State, t: u8, room: usize) {
+fn state_lines(call: u64, state: State, t: u8, room: usize)
+    requires { ⌜ (call < 1000) × (room ≤ lineLimit) ⌝ }
+{
     let mut out = [LENT; ENOUGH];
-    let line = lines::first_line(state, &mut out[..room]);
-    tell_line(call, line, &out);
+    let line = lines::first_line(state, &mut out[0..room]);
+    tell_line(call, line, out);
     let mut out = [LENT; ENOUGH];
-    let line = lines::event_line(state, 1, 0, &mut out[..room]);
-    tell_line(call + 1, line, &out);
+    let line = lines::event_line(state, 1, 0, &mut out[0..room]);
+    tell_line(call + 1, line, out);
     let mut out = [LENT; ENOUGH];
-    let line = lines::task_line(state, t, &mut out[..room]);
-    tell_line(call + 2, line, &out);
+    let line = lines::task_line(state, t, &mut out[0..room]);
+    tell_line(call + 2, line, out);
 }
 
 // The lines that need no state.
-fn plain_lines(call: u64, room: usize) {
+fn plain_lines(call: u64, room: usize)
+    requires { ⌜ (call < 1000) × (room ≤ lineLimit) ⌝ }
+{
     let mut out = [LENT; ENOUGH];
-    let line = lines::block_line(Block::LAST_INDEX + 1, 32, &mut out[..room]);
-    tell_line(call, line, &out);
+    let line = lines::block_line(Block::LAST_INDEX + 1, 32, &mut out[0..room]);
+    tell_line(call, line, out);
     let mut out = [LENT; ENOUGH];
-    let line = lines::set_up_line(5, &mut out[..room]);
-    tell_line(call + 1, line, &out);
+    let line = lines::set_up_line(5, &mut out[0..room]);
+    tell_line(call + 1, line, out);
     let mut out = [LENT; ENOUGH];
-    let line = lines::places_line(12, 2, &[19, 0, 0, 2, 255], &mut out[..room]);
-    tell_line(call + 2, line, &out);
+    let line = lines::places_line(12, 2, &[19, 0, 0, 2, 255], &mut out[0..room]);
+    tell_line(call + 2, line, out);
     let mut out = [LENT; ENOUGH];
-    let line = lines::totals_line(31, [u32::MAX; Task::TOTALS], &mut out[..room]);
-    tell_line(call + 3, line, &out);
+    let line = lines::totals_line(31, [u32::MAX; Task::TOTALS], &mut out[0..room]);
+    tell_line(call + 3, line, out);
 }
 
 // The verdict on a block of one event, of the number given, at an index.
@@ -118,7 +124,9 @@ fn tell_verdict(call: u64, number: u16, index: u64) {
 }
 
 // An event of a kind that there is not, on a state that is sound, or is not.
-fn tell_answers(call: u64, state: State) {
+fn tell_answers(call: u64, state: State)
+    requires { ⌜ call < 1000 ⌝ }
+{
     let e = Event {
         kind: 0,
         task: 0,

@@ -8,20 +8,33 @@ use stepping::Session;
 // More than the input has.
 const MOST_FILES: u64 = 1000;
 
-// Reads `want` bytes, writes the page of what came, and gives the session after it.
-fn take_block(session: Session, want: usize) -> Session {
+// Reads a block, writes the page of what came, and gives the session after it.
+fn take_block(session: Session, block: &mut [u8], out: &mut [u8]) -> Session {
+    let got = io::read_full(STDIN_FILENO, block);
+    let page = stepping::next_page(session, &block[..got], out);
+    let len = page.len;
+    io::write_all(STDOUT_FILENO, &out[0..len]);
+    page.session
+}
+
+// The same of a file that has `left` bytes left: its last block may be shorter, and past its end nothing is read.
+fn take_block_of(session: Session, left: usize) -> Session {
     let mut block = [0u8; Block::SIZE];
     let mut out = [0u8; Page::LIMIT];
-    let most = if want < Block::SIZE {
-        want
+    if left < Block::SIZE {
+        take_block(session, &mut block[0..left], &mut out)
     } else {
-        Block::SIZE
-    };
-    let got = io::read_full(STDIN_FILENO, &mut block[..most]);
-    let page = stepping::next_page(session, &block[..got], &mut out);
-    let len = page.len;
-    io::write_all(STDOUT_FILENO, &out[..len]);
-    page.session
+        take_block(session, &mut block, &mut out)
+    }
+}
+
+// How many bytes are left behind a block.
+fn left_behind(left: usize) -> usize {
+    if left < Block::SIZE {
+        0
+    } else {
+        left - Block::SIZE
+    }
 }
 
 // Steps through a file of `len` bytes; what stands behind a refused block is read and not printed.
@@ -30,13 +43,9 @@ fn run_file(len: usize) {
     let mut left = len;
     let mut turns = len / Block::SIZE + 2;
     while turns > 0 {
-        let next = take_block(session, left);
+        let next = take_block_of(session, left);
         session = next;
-        left = if left < Block::SIZE {
-            0
-        } else {
-            left - Block::SIZE
-        };
+        left = left_behind(left);
         turns -= 1;
     }
 }

@@ -1,10 +1,4 @@
-pub mod Limits
-pub mod Words
-pub mod Sized
-pub mod Refusals
-pub mod Accepted
-pub mod Naming
-pub mod Groups
-pub mod Clearing
 pub mod Kinds
 pub mod Layout
+pub mod Limits
+pub mod Words

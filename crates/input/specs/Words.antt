@@ -1,11 +1,14 @@
 -- The parts of a set-up. A place past a table holds 0.
 use Prim.Native.Nat.{ℕ}
 use mathlib.Core.Bool.{Bool, _&&_}
-use lib.Dec.{ltb}
+use lib.Dec.{leb, ltb}
 use lib.ListN.{getD}
 use Rattle.search.specs.Below.{anyBelow}
 use Rattle.input.specs.Limits.{mostTasks, mostResources, mostPairs}
 use Rattle.input.specs.declared.SetUp.{SetUp}
+
+abbrev pub within : ℕ → ℕ → ℕ → Bool
+within low n high = leb low n && leb n high
 
 module _ (c : SetUp) where
   abbrev pub period : ℕ → ℕ

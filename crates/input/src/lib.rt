@@ -1,15 +1,8 @@
 // What a session is given: a set-up and events, by call or from bytes.
-mod clearing;
 mod events;
-mod grouping;
-mod judging;
 mod reading;
 
-pub use clearing::clear;
-pub use clearing::is_clear;
 pub use events::fields_of;
-pub use grouping::names_of;
-pub use judging::judge;
 pub use reading::byte_at;
 pub use reading::event_at;
 pub use reading::event_count;

@@ -10,8 +10,8 @@ use borrow.Author.Tests.{lt-ltb, le-ltb, eq-eqb, ne-eqb}
 use Rattle.search.specs.Words.{_is_}
 use Rattle.search.specs.Rows.{Row, _when_, _otherwise_}
 use Rattle.input.specs.Limits.{nothing}
-use Rattle.locking.specs.Playing.{written}
-use Rattle.locking.proofs.Writing.{written-join}
+use Rattle.states.specs.Writing.{written}
+use Rattle.states.proofs.Writing.{written-join}
 use Rattle.lines.specs.Texts.{codes, digit, digits, decimal, eachText, Put}
 use Rattle.lines.specs.Lines.{taskText, placeText, lineLimit, lineInto, narrow}
 

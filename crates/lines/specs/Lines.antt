@@ -12,7 +12,7 @@ use Rattle.input.specs.Limits.{nothing}
 use Rattle.protocol.specs.Words.{task}
 use Rattle.protocol.specs.Sound.{sound}
 use Rattle.protocol.specs.declared.State.{State}
-use Rattle.locking.specs.Playing.{lineOf, written}
+use Rattle.states.specs.Writing.{lineOf, written}
 use Rattle.lines.specs.Texts.{codes, decimal, numbered, eachText}
 use Rattle.lines.specs.declared.Line.{Line}
 

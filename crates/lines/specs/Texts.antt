@@ -7,7 +7,7 @@ use mathlib.Core.List.{List, [], _∷_, _++_}
 use lib.Dec.{ltb}
 use lib.ListN.{length}
 use Rattle.search.specs.Words.{if_then_else_}
-use Rattle.locking.specs.Playing.{written}
+use Rattle.states.specs.Writing.{written}
 
 abbrev pub codes : String → List ℕ
 codes none = []

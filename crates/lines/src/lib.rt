@@ -1,6 +1,6 @@
 // The printed lines, each into a lent buffer.
 mod numbers;
-mod states;
+mod of_states;
 mod writing;
 
 pub use numbers::block_line;
@@ -8,9 +8,9 @@ pub use numbers::counts_line;
 pub use numbers::places_line;
 pub use numbers::set_up_line;
 pub use numbers::totals_line;
-pub use states::event_line;
-pub use states::first_line;
-pub use states::task_line;
+pub use of_states::event_line;
+pub use of_states::first_line;
+pub use of_states::task_line;
 
 // A line's number from the list, and its length: 0 where it is refused.
 pub struct Line {

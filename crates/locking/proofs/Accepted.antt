@@ -7,11 +7,11 @@ use native.Mathlib.Decide.{ℕ-discrete, decLt}
 use Rattle.search.proofs.Tests.{tests}
 use Rattle.search.proofs.Refusals.{none-iff, NoneApplies}
 use Rattle.input.specs.Limits.{mostTasks, mostResources}
-use Rattle.input.specs.Naming.{names, groupOf}
+use Rattle.setups.specs.Naming.{names, groupOf}
 use Rattle.input.specs.Kinds.{request as asking, completion, passing, fieldsOf}
 use Rattle.input.specs.Words.{period}
 use Rattle.input.specs.declared.Event.{Event}
-use Rattle.input.proofs.Accepted.{and-none-iff}
+use Rattle.setups.proofs.Accepted.{and-none-iff}
 use Rattle.protocol.specs.Words.{lastClock, task, stand, absent, deadline, depth, len, sum}
 use Rattle.protocol.specs.Sound.{sound}
 use Rattle.protocol.specs.Refusals.{stepOf, eventRows, judge}

@@ -15,9 +15,10 @@ use Rattle.protocol.specs.declared.Reply.{Reply}
 use Rattle.protocol.proofs.Statements.{Sound}
 use Rattle.protocol.proofs.Reflect.{Shaped, sound-of-test, test-of-sound}
 use Rattle.protocol.proofs.Step.{step-sound, run-setup}
-use Rattle.locking.specs.Playing.{lineSize, lineOf, written, playable, playedTo, replyTo, writtenTo}
+use Rattle.states.specs.Writing.{lineSize, lineOf, written}
+use Rattle.locking.specs.Playing.{playable, playedTo, replyTo, writtenTo}
 use Rattle.locking.proofs.Accepted.{unsound-stepped}
-use Rattle.locking.proofs.Writing.{written-long}
+use Rattle.states.proofs.Writing.{written-long}
 
 step-setup : (s : State) (e : Event) → Sound s → step s e .state .setup ≡ s .setup
 unfolding run

@@ -4,4 +4,3 @@ pub mod Bounded
 pub mod Branching
 pub mod Charging
 pub mod Shapes
-pub mod Writing

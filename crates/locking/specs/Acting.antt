@@ -6,7 +6,7 @@ use mathlib.Core.List.{List}
 use Rattle.search.specs.Words.{if_then_else_, _isn't_}
 use Rattle.processors.specs.declared.Processors.{Processors}
 use Rattle.input.specs.Limits.{mostTasks, mostResources}
-use Rattle.input.specs.Naming.{names, groupOf}
+use Rattle.setups.specs.Naming.{names, groupOf}
 use Rattle.input.specs.Kinds.{request, completion}
 use Rattle.input.specs.declared.Event.{Event}
 use Rattle.protocol.specs.Words.{mostRequests, absent, standingNo, depth, len}

@@ -1,31 +1,12 @@
 -- A part of events played: the state after each, and what is written of each into a lent buffer.
 use Prim.Native.Nat.{ℕ, zero, suc, _*_, _/_, min}
-use mathlib.Core.List.{List, [], _∷_, _++_}
-use lib.ListN.{length, set}
-use Rattle.processors.specs.Limits.{processors}
-use Rattle.processors.specs.Words.{link, runs}
-use Rattle.processors.specs.declared.Processors.{Processors}
+use mathlib.Core.List.{List}
+use lib.ListN.{length}
 use Rattle.input.specs.Layout.{eventIn, eventCount}
 use Rattle.protocol.specs.Events.{step}
 use Rattle.protocol.specs.declared.State.{State}
 use Rattle.protocol.specs.declared.Reply.{Reply}
-
--- how many bytes are written of an event: its answer, and per processor the linked and the running task
-abbrev pub lineSize : ℕ
-lineSize = 17
-
--- the linked and the running task of the first k processors
-unfoldable pub places : Processors → ℕ → List ℕ
-places p zero = []
-places p (suc k) = places p k ++ (link p k ∷ runs p k ∷ [])
-
-unfoldable pub lineOf : ℕ → Processors → List ℕ
-lineOf answer p = answer ∷ places p processors
-
--- the buffer with a text written from a place on
-unfoldable pub written : List ℕ → ℕ → List ℕ → List ℕ
-written bytes at [] = bytes
-written bytes at (x ∷ text) = written (set bytes at x) (suc at) text
+use Rattle.states.specs.Writing.{lineSize, lineOf, written}
 
 -- as many events as the part has whole and the buffer has room for
 unfoldable pub playable : List ℕ → List ℕ → ℕ

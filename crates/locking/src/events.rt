@@ -21,7 +21,7 @@ ghost use lib.ListN.{getD};
 ghost use Rattle.search.specs.Words.{if_then_else_, _is_};
 ghost use Rattle.search.specs.Below.{anyBelow};
 ghost use Rattle.input.specs.Limits.{mostTasks, mostResources};
-ghost use Rattle.input.specs.Naming.{names, groupOf};
+ghost use Rattle.setups.specs.Naming.{names, groupOf};
 ghost use Rattle.protocol.specs.Words.{nobody, lastClock, sum, noTask};
 ghost use Rattle.protocol.specs.Situations.{totalOf};
 ghost use Rattle.protocol.specs.Locks.{frees, passes};
@@ -68,8 +68,8 @@ fn arrival(state: State, t: u8) -> State
     let setup = state.setup;
     let periods = setup.periods;
     let tasks = state.tasks;
-    let task = views::task_at(tasks, t);
-    let due = (state.clock as u64) + (views::period_at(periods, t) as u64);
+    let task = states::task_at(tasks, t);
+    let due = (state.clock as u64) + (states::period_at(periods, t) as u64);
     arrive(with_task(state, t, arrived(task, state.clock, due)), t)
 }
 
@@ -78,7 +78,7 @@ fn finish(state: State, t: u8) -> State
     ensures { λ r. ⌜ r ≡ finishEvent (state .setup) t state ⌝ }
 {
     let tasks = state.tasks;
-    let task = views::task_at(tasks, t);
+    let task = states::task_at(tasks, t);
     leave(with_task(state, t, departed(task)), t)
 }
 
@@ -93,7 +93,7 @@ fn has_kind(
 {
     let mut some = false;
     for i in 0..depth {
-        some = some | (views::kind_at(kinds, views::request_at(requests, i)) == kind);
+        some = some | (states::kind_at(kinds, states::request_at(requests, i)) == kind);
     }
     some
 }
@@ -106,11 +106,11 @@ fn request(state: State, named: [u8; SetUp::RESOURCES], t: u8, r: u8) -> State
     let kinds = setup.kinds;
     let tasks = state.tasks;
     let groups = state.groups;
-    let task = views::task_at(tasks, t);
+    let task = states::task_at(tasks, t);
     let requests = task.requests;
-    let kind = views::kind_at(kinds, r);
-    let g = views::number_at(named, r);
-    let group = views::group_at(groups, g as usize);
+    let kind = states::kind_at(kinds, r);
+    let g = states::number_at(named, r);
+    let group = states::group_at(groups, g as usize);
     if has_kind(kinds, requests, task.depth, kind) | (group.holder == Task::NOTHING) {
         open_request(state, t, r, g)
     } else {
@@ -158,11 +158,11 @@ fn complete(state: State, named: [u8; SetUp::RESOURCES], t: u8, r: u8) -> State
     let groups = state.groups;
     let closed = close_request(state, t);
     let tasks = closed.tasks;
-    let task = views::task_at(tasks, t);
+    let task = states::task_at(tasks, t);
     let requests = task.requests;
-    let kind = views::kind_at(kinds, r);
-    let g = views::number_at(named, r);
-    let group = views::group_at(groups, g as usize);
+    let kind = states::kind_at(kinds, r);
+    let g = states::number_at(named, r);
+    let group = states::group_at(groups, g as usize);
     let queue = group.queue;
     let idle = queue.len == 0;
     if has_kind(kinds, requests, task.depth, kind) {
@@ -194,11 +194,11 @@ fn charge_task(task: Task, p: Processors, t: u8, ticks: u16) -> Task
     ensures { λ r. ⌜ r ≡ chargedTask p ticks t task ⌝ }
 {
     let standing = task.standing;
-    let stand = views::stand_of(standing);
+    let stand = states::stand_of(standing);
     if stand == Task::ABSENT {
         task
     } else {
-        let i = total_of(views::situation_of(stand, p, t));
+        let i = total_of(states::situation_of(stand, p, t));
         let totals = task.totals;
         let mut next = task;
         next.totals[i] = totals[i] + (ticks as u32);

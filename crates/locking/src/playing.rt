@@ -2,40 +2,26 @@
 use crate::sessions::step_sound;
 use input::Event;
 use input::SetUp;
-use processors::Processors;
 use protocol::Reply;
 use protocol::State;
 ghost use mathlib.Core.Path.{_≡_};
 ghost use Prim.Native.Nat.{_+_, _≤_};
 ghost use lib.ListN.{length};
-ghost use Rattle.input.specs.Naming.{names};
+ghost use Rattle.setups.specs.Naming.{names};
 ghost use Rattle.protocol.specs.Sound.{sound};
 ghost use Rattle.protocol.specs.Events.{step as stepRule};
-ghost use Rattle.locking.specs.Playing.{lineSize, lineOf, written, played};
-
-// An event's answer, and per processor the linked and the running task.
-const LINE_SIZE: usize = 17;
-
-pub fn line_of(answer: u8, p: Processors) -> [u8; LINE_SIZE]
-    ensures { λ r. ⌜ r ≡ lineOf answer p ⌝ }
-{
-    let mut line = [answer; LINE_SIZE];
-    for k in 0..Processors::LIMIT {
-        line[2 * k + 1] = processors::link_at(p, k);
-        line[2 * k + 2] = processors::runs_at(p, k);
-    }
-    line
-}
+ghost use Rattle.states.specs.Writing.{lineSize, written};
+ghost use Rattle.locking.specs.Playing.{played};
 
 // Writes a line into `out` from `at` on, and gives the place behind it.
-fn put_line(out: &mut [u8], at: usize, line: [u8; LINE_SIZE]) -> usize
+fn put_line(out: &mut [u8], at: usize, line: [u8; Reply::LINE]) -> usize
     requires { ⌜ at + lineSize ≤ length (now out) ⌝ }
     ensures { λ r. ⌜ (r ≡ at + lineSize) × (now (out .exit) ≡ written (now (out .entry)) at line) ⌝ }
 {
-    for i in 0..LINE_SIZE {
+    for i in 0..Reply::LINE {
         out[at + i] = line[i];
     }
-    at + LINE_SIZE
+    at + Reply::LINE
 }
 
 // A step of a state that is known to be sound, or known not to be.
@@ -58,7 +44,7 @@ pub fn play(state: State, part: &[u8], out: &mut [u8]) -> State
     let named = tested.named;
     let is_sound = tested.passes;
     let events = input::event_count(part);
-    let room = out.len() / LINE_SIZE;
+    let room = out.len() / Reply::LINE;
     let count = if events < room { events } else { room };
     let mut at = 0;
     let mut now_state = state;
@@ -66,7 +52,7 @@ pub fn play(state: State, part: &[u8], out: &mut [u8]) -> State
         let reply = step_known(now_state, named, is_sound, input::event_at(part, i));
         let next = reply.state;
         let p = next.processors;
-        at = put_line(out, at, line_of(reply.answer, p));
+        at = put_line(out, at, states::line_of(reply.answer, p));
         now_state = next;
     }
     now_state

@@ -14,12 +14,12 @@ use Rattle.queue.proofs.Laws.{empty-tidy}
 use Rattle.processors.specs.Words.{noneLinked}
 use Rattle.scheduler.proofs.Laws.{none-placed}
 use Rattle.input.specs.Limits.{mostTasks, mostResources}
-use Rattle.input.specs.Refusals.{setUpRefusal}
-use Rattle.input.specs.Clearing.{cleared, isClear}
+use Rattle.setups.specs.Refusals.{setUpRefusal}
+use Rattle.setups.specs.Clearing.{cleared, isClear}
 use Rattle.input.specs.declared.SetUp.{SetUp}
-use Rattle.input.proofs.Accepted.{accepted-iff}
-use Rattle.input.proofs.Names.{group-low, group-kind}
-use Rattle.input.proofs.Cleared.{cleared-refusal, cleared-clear}
+use Rattle.setups.proofs.Accepted.{accepted-iff}
+use Rattle.setups.proofs.Names.{group-low, group-kind}
+use Rattle.setups.proofs.Cleared.{cleared-refusal, cleared-clear}
 use Rattle.protocol.specs.Words.{mostRequests, nobody, lastClock, sum, absent, standingNo, noTask, noGroup, task, group, stand, deadline, depth, request, holder, len}
 use Rattle.protocol.specs.Ranks.{jobs}
 use Rattle.protocol.specs.Events.{fresh, begin}

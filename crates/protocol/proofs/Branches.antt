@@ -7,7 +7,7 @@ use borrow.Author.Tests.{eqb-true, eqb-false}
 use Rattle.search.specs.Words.{_is_}
 use Rattle.input.specs.Limits.{short}
 use Rattle.input.specs.Words.{kind}
-use Rattle.input.specs.Naming.{groupOf}
+use Rattle.setups.specs.Naming.{groupOf}
 use Rattle.input.specs.declared.SetUp.{SetUp}
 use Rattle.protocol.specs.Words.{nobody, holder, len}
 use Rattle.protocol.specs.Locks.{openOfKind, opens, queues, closes, frees, nextAt, passes}

@@ -10,7 +10,7 @@ use Rattle.processors.specs.Words.{runs, runOf, modeOf}
 use Rattle.scheduler.proofs.Laws.{nonpreemptable-running, runs-there}
 use Rattle.input.specs.Limits.{mostTasks, short, long}
 use Rattle.input.specs.Words.{kind}
-use Rattle.input.specs.Naming.{groupOf}
+use Rattle.setups.specs.Naming.{groupOf}
 use Rattle.input.specs.declared.SetUp.{SetUp}
 use Rattle.protocol.specs.Words.{nobody, active, spinning, suspended, stand, asked, request, holder, len, waiter}
 use Rattle.protocol.specs.Ranks.{jobs}

@@ -6,7 +6,7 @@ use native.Mathlib.Omega.{arith}
 use native.Mathlib.Decide.{ℕ-discrete, decLt}
 use Rattle.input.specs.Limits.{mostTasks, long}
 use Rattle.input.specs.Words.{kind}
-use Rattle.input.specs.Naming.{groupOf}
+use Rattle.setups.specs.Naming.{groupOf}
 use Rattle.input.specs.declared.SetUp.{SetUp}
 use Rattle.protocol.specs.Words.{mostRequests, nobody, absent, active, spinning, stand, asked, depth, request, holder, len, waiter}
 use Rattle.protocol.specs.declared.State.{State}

@@ -14,7 +14,7 @@ use Rattle.processors.specs.Words.{modeOf, isRunnable as isRunnableJob, isAhead
 use Rattle.scheduler.proofs.Laws.{linked-law, linked-many-law}
 use Rattle.input.specs.Limits.{mostTasks, short}
 use Rattle.input.specs.Words.{kind}
-use Rattle.input.specs.Naming.{groupOf}
+use Rattle.setups.specs.Naming.{groupOf}
 use Rattle.protocol.specs.Words.{absent, spinning, suspended, standingNo, task, stand, asked, holder, len, waiter}
 use Rattle.protocol.specs.Ranks.{jobs}
 use Rattle.protocol.specs.Demands.{isRunnable, isAhead, PrioritiesApart, LinksHighest, OneHolder, Waiting, WaitsFor, ChainsEnd, OnePlace}

@@ -8,7 +8,7 @@ use Rattle.processors.specs.Words.{rankOf, modeOf}
 use Rattle.scheduler.specs.Changes.{Alike, Joins, Hardens, Softens, Raises, Leaves, Lowers}
 use Rattle.input.specs.Limits.{mostTasks, short, long}
 use Rattle.input.specs.Words.{kind}
-use Rattle.input.specs.Naming.{groupOf}
+use Rattle.setups.specs.Naming.{groupOf}
 use Rattle.input.specs.declared.SetUp.{SetUp}
 use Rattle.protocol.specs.Words.{nobody, absent, active, spinning, suspended, stand, asked, depth, request, holder, len, waiter}
 use Rattle.protocol.specs.Ranks.{own, effective, jobs}

@@ -14,7 +14,7 @@ use Rattle.queue.specs.Tidy.{Tidy}
 use Rattle.queue.specs.Waiting.{waiter as queued, appended, withoutFirst}
 use Rattle.queue.specs.declared.Queue.{Queue}
 use Rattle.queue.proofs.Laws.{append-len, append-place, without-len, without-place}
-use Rattle.input.specs.Naming.{groupOf}
+use Rattle.setups.specs.Naming.{groupOf}
 use Rattle.input.specs.declared.SetUp.{SetUp}
 use Rattle.protocol.specs.Words.{nobody, group, asked, len, waiter}
 use Rattle.protocol.specs.Locks.{withGroup, openOfKind, opens, queues, closes, frees, nextAt, calls, passes}

@@ -10,7 +10,7 @@ use Rattle.queue.specs.Tidy.{Tidy}
 use Rattle.queue.specs.Waiting.{appended, withoutFirst}
 use Rattle.queue.specs.declared.Queue.{Queue}
 use Rattle.input.specs.Words.{kind}
-use Rattle.input.specs.Naming.{groupOf}
+use Rattle.setups.specs.Naming.{groupOf}
 use Rattle.input.specs.declared.SetUp.{SetUp}
 use Rattle.protocol.specs.Words.{nobody, group, asked, holder, len, waiter}
 use Rattle.protocol.specs.Locks.{standingAs, opening, onTask, withGroup, lockOf, openOfKind, opens, queues, closes, frees, nextAt, calls, passes}

@@ -9,7 +9,7 @@ use Rattle.search.specs.Words.{_is_}
 use Rattle.queue.specs.Waiting.{appended, withoutFirst}
 use Rattle.scheduler.proofs.Laws.{arriving-count, leaving-count, softening-count, giving-way-count}
 use Rattle.input.specs.Words.{kind}
-use Rattle.input.specs.Naming.{groupOf}
+use Rattle.setups.specs.Naming.{groupOf}
 use Rattle.input.specs.declared.SetUp.{SetUp}
 use Rattle.protocol.specs.Words.{nobody, absent, spinning, standingNo, group, stand, asked, len}
 use Rattle.protocol.specs.Ranks.{jobs}

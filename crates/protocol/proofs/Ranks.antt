@@ -10,7 +10,7 @@ use Rattle.search.proofs.Firsts.{First, first-law}
 use Rattle.search.proofs.Tests.{tests, never}
 use Rattle.input.specs.Limits.{mostTasks, long}
 use Rattle.input.specs.Words.{kind}
-use Rattle.input.specs.Naming.{groupOf}
+use Rattle.setups.specs.Naming.{groupOf}
 use Rattle.input.specs.declared.SetUp.{SetUp}
 use Rattle.protocol.specs.Words.{nobody, spinning, suspended, stand, asked, deadline, depth, request, holder, len, waiter}
 use Rattle.protocol.specs.Ranks.{own, leastOf, longHeld, effective}

@@ -14,7 +14,7 @@ use Rattle.queue.proofs.Laws.{tidy-test, place-of-some, place-of-waiter}
 use Rattle.scheduler.specs.Placed.{Sized as SizedProcessors}
 use Rattle.placement.proofs.Testing.{placed-of-test, test-of-placed}
 use Rattle.input.specs.Limits.{mostTasks, mostResources}
-use Rattle.input.specs.Naming.{groupOf}
+use Rattle.setups.specs.Naming.{groupOf}
 use Rattle.input.specs.declared.SetUp.{SetUp}
 use Rattle.protocol.specs.Words.{mostRequests, nobody, absent, spinning, noTask, noGroup, task, group, stand, asked, depth, request, len, waiter}
 use Rattle.protocol.specs.Ranks.{jobs}

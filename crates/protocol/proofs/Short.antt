@@ -14,11 +14,11 @@ use Rattle.search.proofs.Tests.{tests, never, anyBelow-same}
 use Rattle.queue.specs.Tidy.{Tidy}
 use Rattle.input.specs.Limits.{mostTasks, mostResources, short}
 use Rattle.input.specs.Words.{kind}
-use Rattle.input.specs.Naming.{groupOf}
+use Rattle.setups.specs.Naming.{groupOf}
 use Rattle.input.specs.Kinds.{request as asking, completion}
 use Rattle.input.specs.declared.SetUp.{SetUp}
 use Rattle.input.specs.declared.Event.{Event}
-use Rattle.input.proofs.Accepted.{accepted-iff}
+use Rattle.setups.proofs.Accepted.{accepted-iff}
 use Rattle.protocol.specs.Words.{nobody, spinning, group, stand, asked, depth, len}
 use Rattle.protocol.specs.Ranks.{shortOpen}
 use Rattle.protocol.specs.Refusals.{stepOf, judge}

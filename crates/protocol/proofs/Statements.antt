@@ -11,9 +11,9 @@ use Rattle.processors.specs.Words.{runOf}
 use Rattle.scheduler.specs.Placed.{Placed}
 use Rattle.input.specs.Limits.{mostTasks, mostResources, long}
 use Rattle.input.specs.Words.{period, kind}
-use Rattle.input.specs.Refusals.{setUpRefusal}
-use Rattle.input.specs.Naming.{groupOf}
-use Rattle.input.specs.Clearing.{isClear}
+use Rattle.setups.specs.Refusals.{setUpRefusal}
+use Rattle.setups.specs.Naming.{groupOf}
+use Rattle.setups.specs.Clearing.{isClear}
 use Rattle.input.specs.declared.SetUp.{SetUp}
 use Rattle.protocol.specs.Words.{mostRequests, totalCount, nobody, lastClock, sum, absent, active, spinning, suspended, task, group, stand, asked, deadline, depth, request, holder, len, waiter}
 use Rattle.protocol.specs.Ranks.{jobs}

@@ -17,13 +17,13 @@ use Rattle.processors.specs.Words.{linkOf, runOf}
 use Rattle.scheduler.proofs.Laws.{running-runnable}
 use Rattle.input.specs.Limits.{mostTasks, short, long}
 use Rattle.input.specs.Words.{period, kind}
-use Rattle.input.specs.Refusals.{setUpRefusal}
-use Rattle.input.specs.Naming.{groupOf}
-use Rattle.input.specs.Clearing.{isClear}
+use Rattle.setups.specs.Refusals.{setUpRefusal}
+use Rattle.setups.specs.Naming.{groupOf}
+use Rattle.setups.specs.Clearing.{isClear}
 use Rattle.input.specs.Kinds.{arrival, finish, request as asking, completion, passing, fieldsOf}
 use Rattle.input.specs.declared.SetUp.{SetUp}
 use Rattle.input.specs.declared.Event.{Event}
-use Rattle.input.proofs.Accepted.{and-none-iff}
+use Rattle.setups.proofs.Accepted.{and-none-iff}
 use Rattle.protocol.specs.Words.{mostRequests, lastClock, absent, spinning, suspended, stand, depth, request}
 use Rattle.protocol.specs.Ranks.{jobs}
 use Rattle.protocol.specs.Situations.{situation, hindrance}

@@ -15,7 +15,7 @@ use Rattle.scheduler.specs.Changes.{Alike, Joins, Softens}
 use Rattle.scheduler.proofs.Laws.{arriving-law, alike-law, hardening-law, softening-law, raising-law, leaving-law, giving-way-law}
 use Rattle.input.specs.Limits.{mostTasks, mostResources, short, long}
 use Rattle.input.specs.Words.{kind, period}
-use Rattle.input.specs.Naming.{groupOf}
+use Rattle.setups.specs.Naming.{groupOf}
 use Rattle.input.specs.declared.SetUp.{SetUp}
 use Rattle.protocol.specs.Words.{mostRequests, nobody, absent, spinning, suspended, stand, asked, depth, request, holder, len, waiter}
 use Rattle.protocol.specs.Ranks.{own, jobs}

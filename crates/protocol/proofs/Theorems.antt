@@ -8,8 +8,8 @@ use borrow.Author.Tests.{eq-eqb}
 use Rattle.input.specs.Limits.{mostTasks, short}
 use Rattle.input.specs.Words.{kind}
 use Rattle.input.specs.Kinds.{request as asking}
-use Rattle.input.specs.Refusals.{setUpRefusal}
-use Rattle.input.specs.Clearing.{cleared}
+use Rattle.setups.specs.Refusals.{setUpRefusal}
+use Rattle.setups.specs.Clearing.{cleared}
 use Rattle.input.specs.declared.SetUp.{SetUp}
 use Rattle.input.specs.declared.Event.{Event}
 use Rattle.protocol.specs.Sound.{sound}

@@ -14,7 +14,7 @@ use Rattle.search.proofs.Tests.{tests, never}
 use Rattle.search.proofs.Tables.{table-at, replicate-at}
 use Rattle.input.specs.Limits.{mostTasks}
 use Rattle.input.specs.Words.{period}
-use Rattle.input.specs.Refusals.{setUpRefusal}
+use Rattle.setups.specs.Refusals.{setUpRefusal}
 use Rattle.input.specs.Kinds.{arrival, finish}
 use Rattle.input.specs.declared.SetUp.{SetUp}
 use Rattle.input.specs.declared.Event.{Event}

@@ -15,9 +15,9 @@ use Rattle.scheduler.specs.Leaving.{becomingPreemptable, nextTask, filling, ref
 use Rattle.placement.specs.PlacedTest.{linkHolds, runHolds, processorHolds, linksHigher, taskHolds, isPlaced}
 use Rattle.input.specs.Limits.{mostTasks, short, long}
 use Rattle.input.specs.Words.{kind}
-use Rattle.input.specs.Refusals.{setUpRows, setUpRefusal}
-use Rattle.input.specs.Naming.{joinedBy, namesAfter, names, groupOf}
-use Rattle.input.specs.Clearing.{below, cleared, emptyFrom, isClear}
+use Rattle.setups.specs.Refusals.{setUpRows, setUpRefusal}
+use Rattle.setups.specs.Naming.{joinedBy, namesAfter, names, groupOf}
+use Rattle.setups.specs.Clearing.{below, cleared, emptyFrom, isClear}
 use Rattle.input.specs.Kinds.{arrival, request as asking, completion, fieldsOf}
 use Rattle.input.specs.declared.SetUp.{SetUp}
 use Rattle.input.specs.declared.Event.{Event}

@@ -16,9 +16,9 @@ use Rattle.scheduler.specs.Arriving.{lowestFree, lowestLinked, displacing, arri
 use Rattle.scheduler.specs.Leaving.{becomingPreemptable, nextTask, filling, refilling, leavingFrom, leaving, givingWay}
 use Rattle.placement.specs.PlacedTest.{linkHolds, runHolds, processorHolds, linksHigher, taskHolds, isPlaced}
 use Rattle.input.specs.Limits.{mostTasks, mostResources, mostPairs}
-use Rattle.input.specs.Refusals.{setUpRows, setUpRefusal}
-use Rattle.input.specs.Naming.{joinedBy, namesAfter, names, groupOf}
-use Rattle.input.specs.Clearing.{below, cleared, emptyFrom, isClear}
+use Rattle.setups.specs.Refusals.{setUpRows, setUpRefusal}
+use Rattle.setups.specs.Naming.{joinedBy, namesAfter, names, groupOf}
+use Rattle.setups.specs.Clearing.{below, cleared, emptyFrom, isClear}
 use Rattle.input.specs.Kinds.{fieldsOf}
 use Rattle.input.specs.declared.SetUp.{SetUp}
 use Rattle.input.specs.declared.Event.{Event}

@@ -13,8 +13,8 @@ use Rattle.processors.specs.Limits.{processors}
 use Rattle.processors.specs.Words.{link}
 use Rattle.input.specs.Limits.{mostTasks, short}
 use Rattle.input.specs.Words.{kind}
-use Rattle.input.specs.Refusals.{setUpRefusal}
-use Rattle.input.specs.Naming.{groupOf}
+use Rattle.setups.specs.Refusals.{setUpRefusal}
+use Rattle.setups.specs.Naming.{groupOf}
 use Rattle.input.specs.Kinds.{arrival, finish, completion}
 use Rattle.input.specs.declared.SetUp.{SetUp}
 use Rattle.input.specs.declared.Event.{Event}

@@ -11,9 +11,9 @@ use Rattle.scheduler.specs.Arriving.{arriving as linking}
 use Rattle.scheduler.specs.Leaving.{becomingPreemptable, leaving, givingWay}
 use Rattle.input.specs.Limits.{mostTasks, mostResources, short}
 use Rattle.input.specs.Words.{period, kind}
-use Rattle.input.specs.Refusals.{setUpRefusal}
-use Rattle.input.specs.Naming.{groupOf}
-use Rattle.input.specs.Clearing.{cleared}
+use Rattle.setups.specs.Refusals.{setUpRefusal}
+use Rattle.setups.specs.Naming.{groupOf}
+use Rattle.setups.specs.Clearing.{cleared}
 use Rattle.input.specs.Kinds.{arrival, finish, request as asking, completion}
 use Rattle.input.specs.declared.SetUp.{SetUp}
 use Rattle.input.specs.declared.Event.{Event}

@@ -9,9 +9,9 @@ use Rattle.queue.specs.Waiting.{placeOf, isTidy}
 use Rattle.placement.specs.PlacedTest.{isPlaced}
 use Rattle.input.specs.Limits.{mostTasks, mostResources, long}
 use Rattle.input.specs.Words.{period, kind}
-use Rattle.input.specs.Refusals.{setUpRefusal}
-use Rattle.input.specs.Naming.{groupOf}
-use Rattle.input.specs.Clearing.{isClear}
+use Rattle.setups.specs.Refusals.{setUpRefusal}
+use Rattle.setups.specs.Naming.{groupOf}
+use Rattle.setups.specs.Clearing.{isClear}
 use Rattle.input.specs.declared.SetUp.{SetUp}
 use Rattle.protocol.specs.Words.{mostRequests, nobody, lastClock, sum, absent, spinning, suspended, task, group, stand, asked, deadline, depth, request, holder, len, waiter}
 use Rattle.protocol.specs.Ranks.{jobs}

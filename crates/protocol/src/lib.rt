@@ -74,3 +74,8 @@ pub struct Reply {
     pub answer: u8,
     pub state: State,
 }
+
+impl Reply {
+    // How many bytes are written of an event: its answer, and per processor the linked and the running task.
+    pub const LINE: usize = 1 + 2 * Processors::LIMIT;
+}

@@ -13,8 +13,8 @@ use Rattle.queue.specs.Waiting.{isTidy}
 use Rattle.queue.specs.declared.Queue.{Queue}
 use Rattle.input.specs.Limits.{mostTasks, mostResources}
 use Rattle.input.specs.Words.{period}
-use Rattle.input.specs.Refusals.{setUpRefusal}
-use Rattle.input.proofs.Accepted.{accepted-iff}
+use Rattle.setups.specs.Refusals.{setUpRefusal}
+use Rattle.setups.proofs.Accepted.{accepted-iff}
 use Rattle.protocol.specs.Words.{mostRequests, noTask, task, group, stand, deadline, depth}
 use Rattle.protocol.specs.Sound.{clockSound, timesSound, requestsSound, groupSound}
 use Rattle.protocol.specs.declared.Task.{Task}

@@ -4,8 +4,8 @@ use Rattle.search.specs.Words.{_is_}
 use Rattle.search.specs.Below.{allBelow}
 use Rattle.placement.specs.PlacedTest.{isPlaced}
 use Rattle.input.specs.Limits.{mostTasks, mostResources}
-use Rattle.input.specs.Refusals.{setUpRefusal}
-use Rattle.input.specs.Clearing.{isClear}
+use Rattle.setups.specs.Refusals.{setUpRefusal}
+use Rattle.setups.specs.Clearing.{isClear}
 use Rattle.protocol.specs.Ranks.{jobs}
 use Rattle.protocol.specs.Sound.{clockSound, timesSound, requestsSound, waitingSound, groupSound}
 use Rattle.protocol.specs.declared.State.{State}

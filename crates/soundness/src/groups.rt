@@ -17,7 +17,7 @@ ghost use Rattle.search.specs.Table.{table};
 ghost use Rattle.queue.specs.Limits.{capacity};
 ghost use Rattle.queue.specs.Waiting.{waiter, placeOf};
 ghost use Rattle.input.specs.Limits.{mostTasks, mostResources};
-ghost use Rattle.input.specs.Naming.{names};
+ghost use Rattle.setups.specs.Naming.{names};
 ghost use Rattle.protocol.specs.Words.{mostRequests, nobody, absent, spinning, standingNo, askedOf, noTask};
 ghost use Rattle.protocol.specs.Sound.{requestsSound, groupSound};
 
@@ -33,7 +33,7 @@ fn some_in(
 {
     let mut some = false;
     for i in 0..depth {
-        some = some | (views::number_at(groups, views::request_at(requests, i)) == g);
+        some = some | (states::number_at(groups, states::request_at(requests, i)) == g);
     }
     some
 }
@@ -54,7 +54,7 @@ fn all_wait_here(
         let t = queue.waiter(i);
         ok = ok
             & ((Task::SPINNING <= stand_at(stands, t))
-                & (views::number_at(groups, views::number_at(asked, t)) == g));
+                & (states::number_at(groups, states::number_at(asked, t)) == g));
     }
     ok
 }
@@ -83,10 +83,10 @@ fn group_holds(
 {
     let all = state.groups;
     let tasks = state.tasks;
-    let group = views::group_at(all, g as usize);
+    let group = states::group_at(all, g as usize);
     let holder = group.holder;
     let queue = group.queue;
-    let task = views::task_at(tasks, holder);
+    let task = states::task_at(tasks, holder);
     let requests = task.requests;
     if queue.is_tidy() {
         let held = (holder == Task::NOTHING) | some_in(named, requests, task.depth, g);

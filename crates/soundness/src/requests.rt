@@ -12,7 +12,7 @@ ghost use Rattle.search.specs.Words.{_is_, _isn't_, _implies_};
 ghost use Rattle.search.specs.Below.{allBelow};
 ghost use Rattle.search.specs.Table.{table};
 ghost use Rattle.input.specs.Limits.{mostTasks, mostResources};
-ghost use Rattle.input.specs.Naming.{names};
+ghost use Rattle.setups.specs.Naming.{names};
 ghost use Rattle.protocol.specs.Words.{mostRequests, nobody, noGroup, depth};
 ghost use Rattle.protocol.specs.Sound.{requestsSound, waitingSound};
 ghost use Rattle.soundness.specs.Opens.{isOnce, isLong, isTogether};
@@ -31,10 +31,10 @@ fn all_held(
 {
     let mut ok = true;
     for i in 0..depth {
-        let r = views::request_at(requests, i);
+        let r = states::request_at(requests, i);
         ok = ok
             & (((r as usize) < resources)
-                & (views::number_at(holders, views::number_at(groups, r)) == t));
+                & (states::number_at(holders, states::number_at(groups, r)) == t));
     }
     ok
 }
@@ -44,10 +44,10 @@ fn is_once(requests: [u8; Task::REQUESTS], depth: usize, i: usize) -> bool
     requires { ⌜ depth ≤ mostRequests ⌝ }
     ensures { λ r. ⌜ r ≡ isOnce requests depth i ⌝ }
 {
-    let r = views::request_at(requests, i);
+    let r = states::request_at(requests, i);
     let mut ok = true;
     for k in 0..depth {
-        ok = ok & ((r != views::request_at(requests, k)) | (i == k));
+        ok = ok & ((r != states::request_at(requests, k)) | (i == k));
     }
     ok
 }
@@ -70,7 +70,7 @@ fn longs_before(kinds: [u8; SetUp::RESOURCES], requests: [u8; Task::REQUESTS], i
 {
     let mut ok = true;
     for k in 0..i {
-        ok = ok & (views::kind_at(kinds, views::request_at(requests, k)) == SetUp::LONG);
+        ok = ok & (states::kind_at(kinds, states::request_at(requests, k)) == SetUp::LONG);
     }
     ok
 }
@@ -85,7 +85,7 @@ fn all_longs_first(
 {
     let mut ok = true;
     for i in 0..depth {
-        let is_long = views::kind_at(kinds, views::request_at(requests, i)) == SetUp::LONG;
+        let is_long = states::kind_at(kinds, states::request_at(requests, i)) == SetUp::LONG;
         ok = ok & (!is_long | longs_before(kinds, requests, i));
     }
     ok
@@ -102,13 +102,13 @@ fn is_together(
     requires { ⌜ depth ≤ mostRequests ⌝ }
     ensures { λ r. ⌜ r ≡ isTogether kinds groups requests depth i ⌝ }
 {
-    let a = views::request_at(requests, i);
+    let a = states::request_at(requests, i);
     let mut ok = true;
     for k in 0..depth {
-        let b = views::request_at(requests, k);
+        let b = states::request_at(requests, k);
         ok = ok
-            & ((views::kind_at(kinds, a) != views::kind_at(kinds, b))
-                | (views::number_at(groups, a) == views::number_at(groups, b)));
+            & ((states::kind_at(kinds, a) != states::kind_at(kinds, b))
+                | (states::number_at(groups, a) == states::number_at(groups, b)));
     }
     ok
 }
@@ -142,7 +142,7 @@ fn requests_hold(
     let setup = state.setup;
     let kinds = setup.kinds;
     let tasks = state.tasks;
-    let task = views::task_at(tasks, t);
+    let task = states::task_at(tasks, t);
     let standing = task.standing;
     let requests = task.requests;
     let depth = task.depth;
@@ -155,7 +155,7 @@ fn requests_hold(
             & once
             & ordered
             & together
-            & ((views::stand_of(standing) != Task::ABSENT) | (depth == 0))
+            & ((states::stand_of(standing) != Task::ABSENT) | (depth == 0))
     } else {
         false
     }
@@ -188,7 +188,7 @@ fn none_of(
 {
     let mut ok = true;
     for i in 0..depth {
-        ok = ok & (views::kind_at(kinds, views::request_at(requests, i)) != kind);
+        ok = ok & (states::kind_at(kinds, states::request_at(requests, i)) != kind);
     }
     ok
 }
@@ -200,16 +200,16 @@ fn waiting_holds(state: State, groups: [u8; SetUp::RESOURCES], t: u8) -> bool
     let setup = state.setup;
     let kinds = setup.kinds;
     let tasks = state.tasks;
-    let task = views::task_at(tasks, t);
+    let task = states::task_at(tasks, t);
     let standing = task.standing;
-    let stand = views::stand_of(standing);
+    let stand = states::stand_of(standing);
     if stand < Task::SPINNING {
         return true;
     }
-    let asked = views::asked_of(standing);
-    let kind = views::kind_at(kinds, asked);
+    let asked = states::asked_of(standing);
+    let kind = states::kind_at(kinds, asked);
     let all = state.groups;
-    let group = views::group_at(all, views::number_at(groups, asked) as usize);
+    let group = states::group_at(all, states::number_at(groups, asked) as usize);
     let queue = group.queue;
     let requests = task.requests;
     let depth = task.depth;

@@ -27,7 +27,7 @@ pub fn stands_of(tasks: [Task; SetUp::TASKS]) -> [u8; SetUp::TASKS]
     for t in 0..SetUp::TASKS {
         let task = tasks[t];
         let standing = task.standing;
-        stands[t] = views::stand_of(standing);
+        stands[t] = states::stand_of(standing);
     }
     stands
 }
@@ -40,7 +40,7 @@ pub fn asked_of(tasks: [Task; SetUp::TASKS]) -> [u8; SetUp::TASKS]
     for t in 0..SetUp::TASKS {
         let task = tasks[t];
         let standing = task.standing;
-        asked[t] = views::asked_of(standing);
+        asked[t] = states::asked_of(standing);
     }
     asked
 }

@@ -9,7 +9,7 @@ use input::SetUp;
 use protocol::State;
 ghost use mathlib.Core.Path.{_≡_};
 ghost use mathlib.Core.Bool.{true};
-ghost use Rattle.input.specs.Naming.{names};
+ghost use Rattle.setups.specs.Naming.{names};
 ghost use Rattle.protocol.specs.Sound.{sound};
 ghost use Rattle.soundness.specs.Parts.{frameSound, locksSound, placementSound};
 
@@ -18,8 +18,8 @@ fn frame_holds(state: State) -> bool
     ensures { λ r. ⌜ r ≡ frameSound state ⌝ }
 {
     let setup = state.setup;
-    (input::judge(setup) == 0)
-        & input::is_clear(setup)
+    (setups::judge(setup) == 0)
+        & setups::is_clear(setup)
         & (setup.start <= state.clock)
         & all_times(state)
 }
@@ -30,7 +30,7 @@ fn locks_hold(state: State, named: [u8; SetUp::RESOURCES]) -> bool
     ensures { λ r. ⌜ r ≡ locksSound state ⌝ }
 {
     let groups = state.groups;
-    let holders = views::holders_of(groups);
+    let holders = states::holders_of(groups);
     if all_requests(state, named, holders) {
         all_waiting(state, named) & all_groups(state, named)
     } else {
@@ -69,7 +69,7 @@ pub fn test(state: State) -> Tested
     ensures { λ r. ⌜ r ≡ record { passes = sound state; named = names (state .setup) } ⌝ }
 {
     let setup = state.setup;
-    let named = input::names_of(setup);
+    let named = setups::names_of(setup);
     Tested {
         passes: all_hold(state, named),
         named,

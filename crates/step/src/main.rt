@@ -6,15 +6,11 @@ use stepping::Page;
 use stepping::Session;
 
 // Reads the next block, writes the page of what came, and gives the session after it.
-fn take_block(
-    session: Session,
-    block: &mut [u8; Block::SIZE],
-    out: &mut [u8; Page::LIMIT],
-) -> Session {
+fn take_block(session: Session, block: &mut [u8], out: &mut [u8]) -> Session {
     let got = io::read_full(STDIN_FILENO, block);
     let page = stepping::next_page(session, &block[..got], out);
     let len = page.len;
-    io::write_all(STDOUT_FILENO, &out[..len]);
+    io::write_all(STDOUT_FILENO, &out[0..len]);
     page.session
 }
 

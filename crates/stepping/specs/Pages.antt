@@ -11,7 +11,8 @@ use Rattle.protocol.specs.Words.{task}
 use Rattle.protocol.specs.Events.{begin, noSetUp, fresh}
 use Rattle.protocol.specs.declared.State.{State}
 use Rattle.protocol.specs.declared.Reply.{Reply}
-use Rattle.locking.specs.Playing.{lineOf, playedTo, replyTo, written}
+use Rattle.states.specs.Writing.{lineOf, written}
+use Rattle.locking.specs.Playing.{playedTo, replyTo}
 use Rattle.blocks.specs.Sizes.{mostEvents}
 use Rattle.blocks.specs.Verdicts.{verdict, usedPart}
 use Rattle.blocks.specs.declared.Verdict.{Verdict}

@@ -1,12 +1,11 @@
 // A page of lines: what is printed of a block, and at the input's end.
 use crate::Page;
 use crate::Session;
-use crate::writing::WRITTEN;
 use crate::writing::put_events;
 use crate::writing::put_tasks;
 use blocks::Block;
 use blocks::Verdict;
-use input::SetUp;
+use protocol::Reply;
 ghost use mathlib.Core.Path.{_≡_};
 ghost use Prim.Native.Nat.{_+_, _≤_, _<_};
 ghost use lib.ListN.{length};
@@ -24,7 +23,7 @@ pub fn begin() -> Session
         index: 0,
         events: 0,
         over: false,
-        state: locking::empty(),
+        state: states::empty(),
     }
 }
 
@@ -51,7 +50,7 @@ fn set_up_page(x: Session, part: &[u8], out: &mut [u8]) -> Page
     requires { ⌜ pageLimit ≤ length (now out) ⌝ }
     ensures { λ r. ⌜ ((r, now (out .exit)) ≡ paged (setUpPage x (beginRule (setUpIn (now (part .entry))))) (now (out .entry))) × (r .len ≤ length (now (out .exit))) ⌝ }
 {
-    let reply = locking::begin(input::set_up_from(part));
+    let reply = states::begin(input::set_up_from(part));
     if reply.answer != 0 {
         let line = lines::set_up_line(reply.answer, out);
         return ended(x, line.len);
@@ -79,7 +78,7 @@ fn event_page(x: Session, part: &[u8], out: &mut [u8]) -> Page
 {
     let before = x.state;
     let setup = before.setup;
-    let mut written = [0u8; Block::MOST_EVENTS as usize * WRITTEN];
+    let mut written = [0u8; Block::MOST_EVENTS as usize * Reply::LINE];
     let state = locking::play(before, part, &mut written);
     let count = input::event_count(part);
     let len = put_events(out, &written, count, setup.processors, x.events);

@@ -1,16 +1,25 @@
 // Several lines, one behind the other, into a buffer.
 use input::SetUp;
+use protocol::Reply;
 use protocol::State;
-ghost use Prim.Native.Nat.{_*_, _≤_, min};
+use protocol::Task;
+ghost use mathlib.Core.Path.{_≡_};
+ghost use Prim.Native.Nat.{_+_, _*_, _≤_, min};
 ghost use lib.ListN.{length, take, drop};
 ghost use Rattle.input.specs.Limits.{mostTasks};
-ghost use Rattle.locking.specs.Playing.{lineSize};
+ghost use Rattle.states.specs.Writing.{lineSize};
 ghost use Rattle.lines.specs.Texts.{Put};
-ghost use Rattle.lines.specs.Lines.{lineLimit};
+ghost use Rattle.lines.specs.Lines.{eventText, taskLineText, lineLimit};
 ghost use Rattle.stepping.specs.Pages.{eventsText, tasksText};
 
-// How many bytes `locking::play` writes of an event.
-pub const WRITTEN: usize = 17;
+// An event's line from a place on; gives the place behind it.
+fn put_event(out: &mut [u8], at: usize, number: u64, processors: usize, line: &[u8]) -> usize
+    requires { ⌜ at + lineLimit ≤ length (now out) ⌝ }
+    ensures { λ r. ⌜ Put (now (out .entry)) at (eventText number processors (now (line .entry))) r (now (out .exit)) × (r ≤ at + lineLimit) ⌝ }
+{
+    let put = lines::places_line(number, processors, line, &mut out[at..]);
+    at + put.len
+}
 
 // The lines of `count` events, as they were written, numbered on from `events`; gives their length.
 pub fn put_events(
@@ -26,12 +35,31 @@ pub fn put_events(
     let mut at = 0;
     for i in 0..count {
         let number = std::num::wrapping_add_u64(events, i as u64 + 1);
-        let from = WRITTEN * i;
-        let end = from + WRITTEN;
-        let line = lines::places_line(number, processors, &written[from..end], &mut out[at..]);
-        at = at + line.len;
+        let from = Reply::LINE * i;
+        let end = from + Reply::LINE;
+        at = put_event(out, at, number, processors, &written[from..end]);
     }
     at
+}
+
+// A task's totals from a place on; gives the place behind them.
+fn put_task(out: &mut [u8], at: usize, t: u8, totals: [u32; Task::TOTALS]) -> usize
+    requires { ⌜ at + lineLimit ≤ length (now out) ⌝ }
+    ensures { λ r. ⌜ Put (now (out .entry)) at (taskLineText t totals) r (now (out .exit)) × (r ≤ at + lineLimit) ⌝ }
+{
+    let put = lines::totals_line(t, totals, &mut out[at..]);
+    at + put.len
+}
+
+// No more tasks than a state can have.
+fn listed(tasks: usize) -> usize
+    ensures { λ r. ⌜ r ≡ min tasks mostTasks ⌝ }
+{
+    if tasks < SetUp::TASKS {
+        tasks
+    } else {
+        SetUp::TASKS
+    }
 }
 
 // The totals of each task; gives the lines' length.
@@ -40,16 +68,11 @@ pub fn put_tasks(out: &mut [u8], state: State) -> usize
     ensures { λ r. ⌜ Put (now (out .entry)) 0 (tasksText state (min (state .setup .tasks) mostTasks)) r (now (out .exit)) × (r ≤ lineLimit * mostTasks) ⌝ }
 {
     let setup = state.setup;
-    let count = if setup.tasks < SetUp::TASKS {
-        setup.tasks
-    } else {
-        SetUp::TASKS
-    };
+    let count = listed(setup.tasks);
     let mut at = 0;
     for i in 0..count {
         let t = i as u8;
-        let line = lines::totals_line(t, locking::totals_of(state, t), &mut out[at..]);
-        at = at + line.len;
+        at = put_task(out, at, t, states::totals_of(state, t));
     }
     at
 }

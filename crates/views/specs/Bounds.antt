@@ -41,12 +41,9 @@ unfoldable pub jobsWithin : State → Jobs
 jobsWithin s = if isBounded s then jobs (s .setup) s else noJobs
 
 -- ---- the same from the parts of a state
--- a task's own rank, and the holder of a group
+-- a task's own rank
 abbrev pub ownIn : List Task → ℕ → ℕ
 ownIn tasks t = getD tasks t noTask .deadline * 256 + t
-
-abbrev pub holderIn : List Group → ℕ → ℕ
-holderIn groups g = getD groups g noGroup .holder
 
 -- a task's own rank in a table of them; past the table, that of no task
 abbrev pub rankAt : List ℕ → ℕ → ℕ

@@ -1,16 +1,17 @@
 // Priorities, and the view of jobs that the scheduler is told.
-use crate::standings::mode_for;
-use crate::standings::no_group;
-use crate::tables::holders_of;
-use crate::tables::kind_at;
 use input::SetUp;
 use processors::Job;
 use processors::Jobs;
 use processors::Mode;
 use protocol::Group;
+use protocol::Lock;
+use protocol::Standing;
 use protocol::State;
 use protocol::Task;
 use queue::Queue;
+use states::holders_of;
+use states::kind_at;
+use states::no_group;
 ghost use mathlib.Core.Path.{_≡_};
 ghost use mathlib.Core.Bool.{true};
 ghost use Prim.Native.Nat.{_+_, _*_, _≤_, min};
@@ -21,7 +22,7 @@ ghost use Rattle.search.specs.Table.{table};
 ghost use Rattle.queue.specs.Waiting.{waiter};
 ghost use Rattle.input.specs.Limits.{mostTasks, mostResources, short};
 ghost use Rattle.protocol.specs.Words.{mostRequests, nobody, noTask, noGroup};
-ghost use Rattle.protocol.specs.Ranks.{leastOf, jobs};
+ghost use Rattle.protocol.specs.Ranks.{leastOf, modeFor, jobs};
 ghost use Rattle.views.specs.Bounds.{latest, taskBounded, queueBounded, isBounded, noJobs, jobsWithin, ownIn, rankAt, heldBy, jobWith};
 
 // No deadline of a sound state is past this.
@@ -138,6 +139,24 @@ fn holds_short(kinds: [u8; SetUp::RESOURCES], requests: [u8; Task::REQUESTS], de
         some = some | (kind_at(kinds, requests[i]) == SetUp::SHORT);
     }
     some
+}
+
+// `holds`: a short request is open.
+fn mode_for(standing: Standing, holds: bool) -> Mode
+    ensures { λ r. ⌜ r ≡ modeFor standing holds ⌝ }
+{
+    match standing {
+        Standing::Absent => Mode::Off,
+        Standing::Active => if holds {
+            Mode::NonPreemptable
+        } else {
+            Mode::Preemptable
+        },
+        Standing::Waiting(lock) => match lock {
+            Lock::Short(_) => Mode::NonPreemptable,
+            Lock::Long(_) => Mode::Off,
+        },
+    }
 }
 
 // The job of a task with its own rank, with those who wait for what it holds.

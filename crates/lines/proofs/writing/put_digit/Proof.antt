@@ -1,7 +1,7 @@
 use borrow.Author.Needs.{needs}
 use mathlib.Core.Path.{refl}
 use native.Mathlib.Omega.{arith}
-use Rattle.locking.specs.Playing.{written}
+use Rattle.states.specs.Writing.{written}
 use Rattle.lines.proofs.writing.put_digit.Statement.{statement}
 use Rattle.lines.proofs.writing.put_digit.Tie as tie
 

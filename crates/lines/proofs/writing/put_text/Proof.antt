@@ -4,8 +4,8 @@ use mathlib.Core.Path.{_≡_, refl}
 use native.Mathlib.Omega.{arith}
 use lib.ListN.{length, take, length-set}
 use lib.Seq.{take-length}
-use Rattle.locking.specs.Playing.{written}
-use Rattle.locking.proofs.Writing.{written-turn}
+use Rattle.states.specs.Writing.{written}
+use Rattle.states.proofs.Writing.{written-turn}
 use Rattle.lines.proofs.writing.put_text.Statement.{statement}
 use Rattle.lines.proofs.writing.put_text.Tie as tie
 

@@ -2,7 +2,7 @@ use mathlib.Core.Path.{sym, _∙_}
 use native.Mathlib.Omega.{arith}
 use borrow.Author.Needs.{needs}
 use borrow.Author.Tests.{eqb-false}
-use Rattle.input.specs.Naming.{groupOf}
+use Rattle.setups.specs.Naming.{groupOf}
 use Rattle.protocol.specs.Words.{depth, waiter, request, len}
 use Rattle.protocol.specs.Locks.{openOfKind, closes}
 use Rattle.locking.proofs.Bounded.{bounds, closes-bounded, closes-pass}

@@ -1,6 +1,6 @@
 use mathlib.Core.Path.{sym, _∙_}
 use borrow.Author.Needs.{needs}
-use Rattle.input.specs.Naming.{groupOf}
+use Rattle.setups.specs.Naming.{groupOf}
 use Rattle.protocol.specs.Words.{depth, request, holder}
 use Rattle.protocol.specs.Locks.{openOfKind, queues}
 use Rattle.locking.proofs.Bounded.{queues-bounded}

@@ -10,8 +10,8 @@ use Rattle.search.specs.Words.{if_then_else_, _is_, _isn't_}
 use Rattle.search.specs.Below.{anyBelow}
 use Rattle.search.specs.Rows.{_when_, _otherwise_, firstOf}
 use Rattle.input.specs.Words.{period}
-use Rattle.input.specs.Refusals.{within}
-use Rattle.input.specs.Naming.{names, groupOf}
+use Rattle.input.specs.Words.{within}
+use Rattle.setups.specs.Naming.{names, groupOf}
 use Rattle.input.specs.Kinds.{arrival, finish, request as asking, completion}
 use Rattle.input.specs.declared.Event.{Event}
 use Rattle.protocol.specs.Words.{mostRequests, nobody, lastClock, absent, standingNo, task, stand, depth, request}

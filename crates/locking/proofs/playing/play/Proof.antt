@@ -4,13 +4,14 @@ use mathlib.Core.Logic.{⊎-elim}
 use native.Mathlib.Omega.{arith}
 use lib.ListN.{length}
 use borrow.Author.Needs.{needs}
-use Rattle.input.specs.Naming.{names}
+use Rattle.setups.specs.Naming.{names}
 use Rattle.input.specs.Layout.{eventIn, eventCount}
 use Rattle.protocol.specs.Sound.{sound}
 use Rattle.protocol.specs.Events.{step}
 use Rattle.protocol.specs.declared.State.{State}
 use Rattle.soundness.specs.declared.Tested.{Tested}
-use Rattle.locking.specs.Playing.{lineSize, playable, playedTo, writtenTo, played}
+use Rattle.states.specs.Writing.{lineSize}
+use Rattle.locking.specs.Playing.{playable, playedTo, writtenTo, played}
 use Rattle.locking.proofs.Along.{kept-along, long-along, room-along, played-turn, buffer-turn}
 use Rattle.locking.proofs.Shapes.{shaped}
 use Rattle.locking.proofs.playing.play.Statement.{statement}

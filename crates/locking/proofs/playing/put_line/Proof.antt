@@ -4,8 +4,8 @@ use mathlib.Core.Path.{_≡_, refl}
 use native.Mathlib.Omega.{arith}
 use lib.ListN.{length, take, length-set}
 use lib.Seq.{take-length}
-use Rattle.locking.specs.Playing.{lineSize, written}
-use Rattle.locking.proofs.Writing.{written-turn}
+use Rattle.states.specs.Writing.{lineSize, written}
+use Rattle.states.proofs.Writing.{written-turn}
 use Rattle.locking.proofs.playing.put_line.Statement.{statement}
 use Rattle.locking.proofs.playing.put_line.Tie as tie
 

@@ -4,7 +4,7 @@ use mathlib.Core.Bool.{and-true, and-false, Bool·not-not}
 use lib.ListN.{length, length-map}
 use borrow.Author.Needs.{needs}
 use Rattle.input.specs.Limits.{mostTasks}
-use Rattle.input.specs.Naming.{groupOf}
+use Rattle.setups.specs.Naming.{groupOf}
 use Rattle.protocol.specs.Words.{depth, request, holder, len, waiter}
 use Rattle.protocol.specs.Sound.{groupSound}
 use Rattle.soundness.proofs.Tabled.{stand-in, asked-in}

@@ -4,7 +4,7 @@ use lib.ListN.{length, length-map}
 use borrow.Author.Needs.{needs}
 use borrow.Author.Tests.{le-leb, lt-leb}
 use Rattle.input.specs.Limits.{mostResources}
-use Rattle.input.specs.Naming.{groupOf}
+use Rattle.setups.specs.Naming.{groupOf}
 use Rattle.protocol.specs.Words.{mostRequests, stand, depth, request}
 use Rattle.protocol.specs.Sound.{requestsSound}
 use Rattle.soundness.proofs.Tabled.{holder-in}

@@ -1,7 +1,7 @@
 -- Of a job that does not wait the clause says nothing. Assumes nothing.
 use borrow.Author.Needs.{needs}
 use borrow.Author.Tests.{le-leb, lt-leb}
-use Rattle.input.specs.Naming.{groupOf}
+use Rattle.setups.specs.Naming.{groupOf}
 use Rattle.protocol.specs.Words.{spinning, stand, asked, depth, request}
 use Rattle.protocol.specs.Sound.{waitingSound}
 use Rattle.soundness.proofs.requests.waiting_holds.Statement.{statement}

@@ -9,7 +9,7 @@ use Rattle.search.specs.Table.{table}
 use Rattle.search.proofs.Tables.{table-none, table-turn, table-all}
 use Rattle.input.specs.Limits.{mostTasks}
 use Rattle.protocol.specs.Words.{nobody, askedOf, noTask}
-use Rattle.views.proofs.Reading.{task-read}
+use Rattle.states.proofs.Reading.{task-read}
 use Rattle.soundness.proofs.tables.asked_of.Statement.{statement}
 use Rattle.soundness.proofs.tables.asked_of.Tie as tie
 

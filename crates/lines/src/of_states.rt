@@ -1,0 +1,47 @@
+// The lines of a state: the sound test, and then a line that needs no state.
+use crate::Line;
+use crate::numbers::counts_line;
+use crate::numbers::places_line;
+use crate::numbers::refused;
+use crate::numbers::totals_line;
+use protocol::State;
+ghost use mathlib.Core.Path.{_≡_};
+ghost use Rattle.lines.specs.Lines.{firstLine, eventLine, taskLine};
+
+// The first line: the counts of processors and tasks, and start.
+pub fn first_line(state: State, out: &mut [u8]) -> Line
+    ensures { λ r. ⌜ (r, now (out .exit)) ≡ firstLine (now (out .entry)) state ⌝ }
+{
+    if !soundness::is_sound(state) {
+        return refused(9);
+    }
+    let setup = state.setup;
+    counts_line(setup.processors, setup.tasks, setup.start, out)
+}
+
+// The line of an event that gave this answer and left this state.
+pub fn event_line(state: State, number: u64, answer: u8, out: &mut [u8]) -> Line
+    ensures { λ r. ⌜ (r, now (out .exit)) ≡ eventLine (now (out .entry)) state number answer ⌝ }
+{
+    if !soundness::is_sound(state) {
+        return refused(9);
+    }
+    let setup = state.setup;
+    let p = state.processors;
+    let line = states::line_of(answer, p);
+    places_line(number, setup.processors, &line, out)
+}
+
+// The totals of a task.
+pub fn task_line(state: State, t: u8, out: &mut [u8]) -> Line
+    ensures { λ r. ⌜ (r, now (out .exit)) ≡ taskLine (now (out .entry)) state t ⌝ }
+{
+    if !soundness::is_sound(state) {
+        return refused(9);
+    }
+    let setup = state.setup;
+    if setup.tasks <= t as usize {
+        return refused(11);
+    }
+    totals_line(t, states::totals_of(state, t), out)
+}

@@ -1,0 +1,167 @@
+-- A cleared set-up is clear, and its refusal and its groups' names are as before. Assumes nothing.
+use Prim.Native.Nat.{ℕ, zero, suc, _<_}
+use native.Mathlib.Omega.{arith}
+use mathlib.Core.Path.{_≡_, refl, sym, ap, _∙_}
+use mathlib.Core.Bool.{Bool, true, false, not, _&&_}
+use mathlib.Core.List.{List, []}
+use lib.Dec.{ltb}
+use lib.ListN.{length, getD}
+use borrow.Author.Tests.{ltb-true, ltb-false, lt-ltb, le-ltb}
+use Rattle.search.specs.Words.{if_then_else_, _is_}
+use Rattle.search.specs.Below.{anyBelow}
+use Rattle.search.specs.Rows.{_when_, _otherwise_, firstOf}
+use Rattle.search.proofs.Tables.{table-length, table-at, table-of}
+use Rattle.search.proofs.Tests.{tests}
+use Rattle.input.specs.Limits.{mostTasks, mostResources, mostPairs, long}
+use Rattle.input.specs.Words.{period, kind, outerOf, innerOf, someTask, someResource, somePair}
+use Rattle.setups.specs.Refusals.{inLimits, isStray, isLongInShort, setUpRows, setUpRefusal}
+use Rattle.setups.specs.Accepted.{Accepted}
+use Rattle.setups.specs.Sized.{Sized}
+use Rattle.setups.specs.Naming.{joinedBy, namesAfter, names}
+use Rattle.setups.specs.Clearing.{below, cleared, emptyFrom, isClear}
+use Rattle.input.specs.declared.SetUp.{SetUp}
+use Rattle.setups.proofs.Lists.{keptBelow}
+use Rattle.setups.proofs.Accepted.{and-none-iff}
+
+-- ---- one table cleared from n on
+module _ (n most : ℕ) (l : List ℕ) where
+  below-length : length (below n most l) ≡ most
+  unfolding below
+  below-length = table-length (keptBelow n l) most
+
+  below-at : (i : ℕ) → i < most → getD (below n most l) i 0 ≡ keptBelow n l i
+  unfolding below
+  below-at i h = table-at (keptBelow n l) most i 0 h
+
+  below-kept : (i : ℕ) → i < n → i < most → getD (below n most l) i 0 ≡ getD l i 0
+  below-kept i g h = below-at i h ∙ rw (lt-ltb i n g)
+
+  below-empty : emptyFrom n most (below n most l) ≡ true
+  unfolding emptyFrom
+  below-empty = simp tests (λ i h g. below-at i h ∙ rw (le-ltb i n g))
+
+  below-same : length l ≡ most → emptyFrom n most l ≡ true → below n most l ≡ l
+  unfolding below emptyFrom
+  below-same s h = sym (table-of (keptBelow n l) l most 0 s (λ i m. go i m (ltb i n) refl))
+    where
+      go : (i : ℕ) → i < most → (t : Bool) → ltb i n ≡ t → getD l i 0 ≡ (if t then getD l i 0 else 0)
+      go i m true e = refl
+      go i m false e = (simp tests at h) i m (ltb-false i n e)
+
+-- ---- tests of the places below n
+some-same : (n most : ℕ) (f g : ℕ → Bool) → ((i : ℕ) → i < n → i < most → f i ≡ g i) → anyBelow most (λ i. ltb i n && f i) ≡ anyBelow most (λ i. ltb i n && g i)
+unfolding anyBelow
+some-same n zero f g h = refl
+some-same n (suc k) f g h = rw (some-same n k f g (λ i l m. h i l (omega arith)), go (ltb k n) refl)
+  where
+    go : (t : Bool) → ltb k n ≡ t → (t && f k) ≡ (t && g k)
+    go true e = h k (ltb-true k n e) (omega arith)
+    go false e = refl
+
+-- the last of the five rows counts only where the first and the fourth do not apply
+last-row : (a b d e f g : Bool) → (a ≡ false → e ≡ false → f ≡ g)
+    → firstOf (1 when a otherwise 2 when b otherwise 3 when d otherwise 4 when e otherwise 5 when f otherwise [])
+    ≡ firstOf (1 when a otherwise 2 when b otherwise 3 when d otherwise 4 when e otherwise 5 when g otherwise [])
+last-row true b d e f g h = refl
+last-row false true d e f g h = refl
+last-row false false true e f g h = refl
+last-row false false false true f g h = refl
+last-row false false false false f g h = rw (h refl refl)
+
+module _ (c : SetUp) where
+  -- its tables have their lengths, whatever those of c are
+  pub cleared-sized : Sized (cleared c)
+  unfolding cleared
+  cleared-sized = record {
+    periods = below-length (c .tasks) mostTasks (c .periods);
+    kinds = below-length (c .resources) mostResources (c .kinds);
+    outer = below-length (c .pairs) mostPairs (c .outer);
+    inner = below-length (c .pairs) mostPairs (c .inner);
+  }
+
+  -- everything past the counts is 0
+  pub cleared-clear : isClear (cleared c) ≡ true
+  unfolding isClear cleared
+  cleared-clear = simp below-empty
+
+  -- a clear set-up stays as it is
+  pub clear-kept : Sized c → isClear c ≡ true → cleared c ≡ c
+  unfolding isClear cleared
+  clear-kept s h =
+      let z = simp tests at h in
+      let periods = below-same (c .tasks) mostTasks (c .periods) (s .periods) (z .0 .0 .0) in
+      let kinds = below-same (c .resources) mostResources (c .kinds) (s .kinds) (z .0 .0 .1) in
+      let outer = below-same (c .pairs) mostPairs (c .outer) (s .outer) (z .0 .1) in
+      let inner = below-same (c .pairs) mostPairs (c .inner) (s .inner) (z .1) in
+      rw (periods, kinds, outer, inner)
+
+  -- ---- what is read below the counts is as before
+  period-kept : (t : ℕ) → t < c .tasks → t < mostTasks → period (cleared c) t ≡ period c t
+  unfolding cleared
+  period-kept = below-kept (c .tasks) mostTasks (c .periods)
+
+  kind-kept : (r : ℕ) → r < c .resources → r < mostResources → kind (cleared c) r ≡ kind c r
+  unfolding cleared
+  kind-kept = below-kept (c .resources) mostResources (c .kinds)
+
+  outer-kept : (i : ℕ) → i < c .pairs → i < mostPairs → outerOf (cleared c) i ≡ outerOf c i
+  unfolding cleared
+  outer-kept = below-kept (c .pairs) mostPairs (c .outer)
+
+  inner-kept : (i : ℕ) → i < c .pairs → i < mostPairs → innerOf (cleared c) i ≡ innerOf c i
+  unfolding cleared
+  inner-kept = below-kept (c .pairs) mostPairs (c .inner)
+
+  -- ---- the refusals
+  periods-same : someTask (cleared c) (λ t. period (cleared c) t is 0) ≡ someTask c (λ t. period c t is 0)
+  unfolding cleared
+  periods-same = some-same (c .tasks) mostTasks _ _ (λ t l m. ap (λ (x : ℕ). x is 0) (period-kept t l m))
+
+  kinds-same : someResource (cleared c) (λ r. ltb long (kind (cleared c) r)) ≡ someResource c (λ r. ltb long (kind c r))
+  unfolding cleared
+  kinds-same = some-same (c .resources) mostResources _ _ (λ r l m. ap (ltb long) (kind-kept r l m))
+
+  inside-same : somePair (cleared c) (isStray (cleared c)) ≡ somePair c (isStray c)
+  unfolding cleared
+  inside-same = some-same (c .pairs) mostPairs _ _ (λ i l m. rw (outer-kept i l m, inner-kept i l m))
+
+  nesting-same : not (inLimits c) ≡ false → somePair c (isStray c) ≡ false → somePair (cleared c) (isLongInShort (cleared c)) ≡ somePair c (isLongInShort c)
+  unfolding cleared
+  nesting-same few stray =
+      let f = simp tests at few in
+      let s = simp (tests, and-none-iff) at stray in
+      some-same (c .pairs) mostPairs _ _ (λ i l m.
+      let out = kind-kept (outerOf c i) (s i m l .0 .0) (omega (arith, s i m l)) in
+      let inn = kind-kept (innerOf c i) (s i m l .0 .1) (omega (arith, s i m l)) in
+      rw (outer-kept i l m, inner-kept i l m, out, inn))
+
+  -- the refusal is as before, 0 too
+  pub cleared-refusal : setUpRefusal (cleared c) ≡ setUpRefusal c
+  unfolding setUpRefusal setUpRows cleared
+  cleared-refusal = rw (periods-same, kinds-same, inside-same)
+      (last-row (not (inLimits c)) (someTask c (λ t. period c t is 0)) (someResource c (λ r. ltb long (kind c r))) (somePair c (isStray c)) _ _ nesting-same)
+
+  -- ---- the names
+  module _ (good : Accepted c) where
+    pair-same : (before : List ℕ) (i : ℕ) → joinedBy (cleared c) before i ≡ joinedBy c before i
+    unfolding joinedBy cleared
+    pair-same before i = go (ltb i (c .pairs)) refl
+      where
+        go : (t : Bool) → ltb i (c .pairs) ≡ t → joinedBy (cleared c) before i ≡ joinedBy c before i
+        go true e =
+            let l = ltb-true i (c .pairs) e in
+            let z = good .inside i l in
+            let out = kind-kept (outerOf c i) (z .0) (omega arith) in
+            let inn = kind-kept (innerOf c i) (z .1) (omega arith) in
+            rw (outer-kept i l (omega arith), inner-kept i l (omega arith), out, inn)
+        go false e = rw e
+
+    after-same : (n : ℕ) → namesAfter (cleared c) n ≡ namesAfter c n
+    unfolding namesAfter
+    after-same zero = refl
+    after-same (suc i) = pair-same (namesAfter (cleared c) i) i ∙ ap (λ (l : List ℕ). joinedBy c l i) (after-same i)
+
+    -- every group keeps its name
+    pub cleared-names : names (cleared c) ≡ names c
+    unfolding names
+    cleared-names = after-same mostPairs

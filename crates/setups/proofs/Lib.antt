@@ -1,0 +1,4 @@
+pub mod Accepted
+pub mod Cleared
+pub mod Lists
+pub mod Names

@@ -1,0 +1,6 @@
+pub mod Accepted
+pub mod Clearing
+pub mod Groups
+pub mod Naming
+pub mod Refusals
+pub mod Sized

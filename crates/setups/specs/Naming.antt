@@ -1,0 +1,39 @@
+-- Document 01, 'Set-up': how groups come about, pair by pair. 'Groups' says what a name means.
+use Prim.Native.Nat.{ℕ, zero, suc, min, max}
+use mathlib.Core.Bool.{Bool, _&&_}
+use mathlib.Core.List.{List, map}
+use lib.Dec.{ltb}
+use lib.ListN.{getD}
+use Rattle.search.specs.Words.{if_then_else_, _is_}
+use Rattle.search.specs.Table.{table}
+use Rattle.input.specs.Limits.{mostResources, mostPairs, nothing}
+use Rattle.input.specs.Words.{kind, outerOf, innerOf}
+use Rattle.input.specs.declared.SetUp.{SetUp}
+
+-- of two names the higher gives way to the lower
+abbrev pub merged : ℕ → ℕ → ℕ → ℕ
+merged a b name = if name is max a b then min a b else name
+
+abbrev pub joined : List ℕ → ℕ → ℕ → List ℕ
+joined names a b = map (merged (getD names a nothing) (getD names b nothing)) names
+
+module _ (c : SetUp) where
+  -- pair i joins: it is of equal kinds
+  abbrev pub isJoining : ℕ → Bool
+  isJoining i = ltb i (c .pairs) && kind c (outerOf c i) is kind c (innerOf c i)
+
+  -- the names after pair i, from those before it
+  unfoldable pub joinedBy : List ℕ → ℕ → List ℕ
+  joinedBy before i = if isJoining i then joined before (outerOf c i) (innerOf c i) else before
+
+  -- the names after the pairs below i; before any pair each resource is a group alone
+  unfoldable pub namesAfter : ℕ → List ℕ
+  namesAfter zero = table (λ r. r) mostResources
+  namesAfter (suc i) = joinedBy (namesAfter i) i
+
+  unfoldable pub names : List ℕ
+  names = namesAfter mostPairs
+
+  -- the name of r's group
+  unfoldable pub groupOf : ℕ → ℕ
+  groupOf r = getD names r nothing

@@ -1,0 +1,24 @@
+-- What is written of an event into a lent buffer: its answer, the links and the placements.
+use Prim.Native.Nat.{ℕ, zero, suc}
+use mathlib.Core.List.{List, [], _∷_, _++_}
+use lib.ListN.{set}
+use Rattle.processors.specs.Limits.{processors}
+use Rattle.processors.specs.Words.{link, runs}
+use Rattle.processors.specs.declared.Processors.{Processors}
+
+-- how many bytes are written of an event: its answer, and per processor the linked and the running task
+abbrev pub lineSize : ℕ
+lineSize = 17
+
+-- the linked and the running task of the first k processors
+unfoldable pub places : Processors → ℕ → List ℕ
+places p zero = []
+places p (suc k) = places p k ++ (link p k ∷ runs p k ∷ [])
+
+unfoldable pub lineOf : ℕ → Processors → List ℕ
+lineOf answer p = answer ∷ places p processors
+
+-- the buffer with a text written from a place on
+unfoldable pub written : List ℕ → ℕ → List ℕ → List ℕ
+written bytes at [] = bytes
+written bytes at (x ∷ text) = written (set bytes at x) (suc at) text

@@ -1,0 +1,61 @@
+-- A page out of the text that was put into its buffer: of any text, of one line, and of a line for each event. Assumes nothing.
+use Prim.Native.Nat.{ℕ, _+_, _*_, _/_, _%_, _≤_, min}
+use mathlib.Core.Path.{_≡_, ap, _∙_}
+use mathlib.Core.Bool.{false}
+use mathlib.Core.List.{List}
+use native.Mathlib.Omega.{arith}
+use lib.ListN.{length, take, drop}
+use Rattle.input.specs.Layout.{eventCount}
+use Rattle.protocol.specs.declared.State.{State}
+use Rattle.states.specs.Writing.{lineSize}
+use Rattle.locking.specs.Playing.{playable, playedTo, writtenTo, played}
+use Rattle.states.proofs.Writing.{written-long}
+use Rattle.blocks.specs.Sizes.{mostEvents}
+use Rattle.lines.specs.Texts.{Put}
+use Rattle.lines.specs.Lines.{lineLimit, lineInto, narrow}
+use Rattle.lines.specs.declared.Line.{Line}
+use Rattle.stepping.specs.Pages.{wide, eventsText, eventPage, pageLimit, paged}
+use Rattle.stepping.specs.declared.Session.{Session}
+use Rattle.stepping.specs.declared.Page.{Page}
+use Rattle.stepping.proofs.Parts.{line-given}
+use Rattle.stepping.proofs.Records.{lines-back}
+
+-- what each page's function ensures: the page and the buffer after it, with its text inside the buffer
+abbrev pub Printed : Session × List ℕ → List ℕ → Page → List ℕ → Type 0
+Printed told out page after = ((page, after) ≡ paged told out) × (page .len ≤ length after)
+
+module _ {x : Session} (text out : List ℕ) {after : List ℕ} {page : Page} where
+  pub page-put : {len : ℕ} → page ≡ record { session = x; number = 0; len = len } → Put out 0 text len after → len ≤ length out → Printed (x, text) out page after
+  unfolding paged
+  page-put {len} made p room =
+      let e : length text ≡ 0 + length text = omega arith in
+      let long : length after ≡ length out = rw (p .bytes) (written-long out 0 text) in
+      (rw (made, p .place, p .bytes, ← e), rw made (omega (arith, long)))
+
+  -- with room for a page there is room for a line
+  pub page-line : {line : Line} → page ≡ record { session = x; number = 0; len = line .len } → pageLimit ≤ length out → (line, after) ≡ lineInto (narrow out) text out
+      → length text ≤ lineLimit → Printed (x, text) out page after
+  page-line {line} made room told short =
+      let put = line-given text out (omega arith) told in
+      page-put made put (omega (arith, put .place))
+
+-- every event of a block's part is played
+pub play-all : (s : State) (part out : List ℕ) → eventCount part ≤ mostEvents → lineSize * mostEvents ≤ length out
+    → played s part out ≡ (playedTo s part (eventCount part), writtenTo s part out (eventCount part))
+unfolding played playable
+play-all s part out few room =
+    let all : min (eventCount part) (length out / lineSize) ≡ eventCount part = omega arith in
+    rw all
+
+-- the lines of what was written of each event, in a buffer with room for all, are a page
+pub page-events : (x : Session) (part buffer out : List ℕ) {state : State} {filled : List ℕ} {count events len : ℕ} {after : List ℕ}
+    → eventCount part ≤ mostEvents → lineSize * mostEvents ≤ length buffer → pageLimit ≤ length out
+    → (state, filled) ≡ played (x .state) part buffer → count ≡ eventCount part → events ≡ (x .events + count) % wide
+    → Put out 0 (eventsText (λ n. take lineSize (drop (lineSize * n) filled)) (x .state .setup .processors) (x .events) count) len after → len ≤ lineLimit * count
+    → Printed (eventPage x part) out (record { session = record { index = x .index + 1; events = events; over = false; state = state }; number = 0; len = len }) after
+page-events x part buffer out {state} {filled} {count} {events} {len} {after} few fits room done counted numbered put short =
+    let all = done ∙ play-all (x .state) part buffer few fits in
+    let kept : state ≡ playedTo (x .state) part (eventCount part) = ap (λ (y : State × List ℕ). y .0) all in
+    let bytes : filled ≡ writtenTo (x .state) part buffer (eventCount part) = ap (λ (y : State × List ℕ). y .1) all in
+    let same = lines-back (x .state) part buffer (x .state .setup .processors) (x .events) (eventCount part) (omega (arith, few, fits)) in
+    page-put _ out (rw (kept, numbered, counted)) (rw (counted, bytes, same) at put) (omega (arith, few, room, counted, short))
