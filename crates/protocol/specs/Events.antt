@@ -9,7 +9,7 @@ use Rattle.processors.specs.Words.{noneLinked}
 use Rattle.processors.specs.declared.Processors.{Processors}
 use Rattle.scheduler.specs.Arriving.{arriving as linking}
 use Rattle.scheduler.specs.Leaving.{becomingPreemptable, leaving, givingWay}
-use Rattle.input.specs.Limits.{mostTasks, mostResources, short}
+use Rattle.input.specs.Limits.{mostTasks, mostResources, mostPairs, short}
 use Rattle.input.specs.Words.{period, kind}
 use Rattle.setups.specs.Refusals.{setUpRefusal}
 use Rattle.setups.specs.Naming.{groupOf}
@@ -109,7 +109,7 @@ run s (e ∷ es) = run (step s e .state) es
 
 -- ---- what a set-up gives: nobody has arrived; a refused one gives an empty state
 abbrev pub noSetUp : SetUp
-noSetUp = record { processors = 0; tasks = 0; resources = 0; pairs = 0; start = 0; periods = replicate mostTasks 0; kinds = replicate mostResources 0; outer = replicate 64 0; inner = replicate 64 0 }
+noSetUp = record { processors = 0; tasks = 0; resources = 0; pairs = 0; start = 0; periods = replicate mostTasks 0; kinds = replicate mostResources 0; outer = replicate mostPairs 0; inner = replicate mostPairs 0 }
 
 unfoldable pub fresh : SetUp → State
 fresh c = record { setup = c; clock = c .start; tasks = replicate mostTasks noTask; groups = replicate mostResources noGroup; processors = noneLinked (c .processors) }
