@@ -40,7 +40,7 @@ module _ {x : Session} (text out : List ℕ) {after : List ℕ} {page : Page} wh
       page-put made put (omega (arith, put .place))
 
 -- every event of a block's part is played
-pub play-all : (s : State) (part out : List ℕ) → eventCount part ≤ mostEvents → lineSize * mostEvents ≤ length out
+play-all : (s : State) (part out : List ℕ) → eventCount part ≤ mostEvents → lineSize * mostEvents ≤ length out
     → played s part out ≡ (playedTo s part (eventCount part), writtenTo s part out (eventCount part))
 unfolding played playable
 play-all s part out few room =
