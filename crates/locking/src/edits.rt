@@ -133,8 +133,8 @@ pub fn open_request(state: State, t: u8, r: u8, g: u8) -> State
 {
     let tasks = state.tasks;
     let groups = state.groups;
-    let task = states::task_at(tasks, t);
-    let group = states::group_at(groups, g as usize);
+    let task = tables::task_at(tasks, t);
+    let group = tables::group_at(groups, g as usize);
     let queue = group.queue;
     with_group(with_task(state, t, opened(task, r)), g, t, queue)
 }
@@ -146,8 +146,8 @@ pub fn queue_request(state: State, t: u8, r: u8, kind: u8, g: u8) -> State
 {
     let tasks = state.tasks;
     let groups = state.groups;
-    let task = states::task_at(tasks, t);
-    let group = states::group_at(groups, g as usize);
+    let task = tables::task_at(tasks, t);
+    let group = tables::group_at(groups, g as usize);
     let queue = group.queue;
     let waits = with_standing(task, Standing::Waiting(lock_of(kind, r)));
     with_group(with_task(state, t, waits), g, group.holder, queue.append(t))
@@ -158,7 +158,7 @@ pub fn close_request(state: State, t: u8) -> State
     ensures { λ x. ⌜ x ≡ closes t state ⌝ }
 {
     let tasks = state.tasks;
-    let task = states::task_at(tasks, t);
+    let task = tables::task_at(tasks, t);
     with_task(state, t, closed(task))
 }
 
@@ -168,7 +168,7 @@ pub fn free_group(state: State, g: u8) -> State
     ensures { λ x. ⌜ x ≡ frees g state ⌝ }
 {
     let groups = state.groups;
-    let group = states::group_at(groups, g as usize);
+    let group = tables::group_at(groups, g as usize);
     let queue = group.queue;
     with_group(state, g, Task::NOTHING, queue)
 }
@@ -180,10 +180,10 @@ pub fn pass_group(state: State, g: u8) -> State
 {
     let tasks = state.tasks;
     let groups = state.groups;
-    let group = states::group_at(groups, g as usize);
+    let group = tables::group_at(groups, g as usize);
     let queue = group.queue;
     let u = queue.first();
-    let task = states::task_at(tasks, u);
+    let task = tables::task_at(tasks, u);
     let standing = task.standing;
     let active = with_task(state, u, with_standing(task, Standing::Active));
     let called = with_group(active, g, group.holder, queue.without_first());

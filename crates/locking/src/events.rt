@@ -68,8 +68,8 @@ fn arrival(state: State, t: u8) -> State
     let setup = state.setup;
     let periods = setup.periods;
     let tasks = state.tasks;
-    let task = states::task_at(tasks, t);
-    let due = (state.clock as u64) + (states::period_at(periods, t) as u64);
+    let task = tables::task_at(tasks, t);
+    let due = (state.clock as u64) + (tables::period_at(periods, t) as u64);
     arrive(with_task(state, t, arrived(task, state.clock, due)), t)
 }
 
@@ -78,7 +78,7 @@ fn finish(state: State, t: u8) -> State
     ensures { λ r. ⌜ r ≡ finishEvent (state .setup) t state ⌝ }
 {
     let tasks = state.tasks;
-    let task = states::task_at(tasks, t);
+    let task = tables::task_at(tasks, t);
     leave(with_task(state, t, departed(task)), t)
 }
 
@@ -93,7 +93,7 @@ fn has_kind(
 {
     let mut some = false;
     for i in 0..depth {
-        some = some | (states::kind_at(kinds, states::request_at(requests, i)) == kind);
+        some = some | (tables::kind_at(kinds, tables::request_at(requests, i)) == kind);
     }
     some
 }
@@ -106,11 +106,11 @@ fn request(state: State, named: [u8; SetUp::RESOURCES], t: u8, r: u8) -> State
     let kinds = setup.kinds;
     let tasks = state.tasks;
     let groups = state.groups;
-    let task = states::task_at(tasks, t);
+    let task = tables::task_at(tasks, t);
     let requests = task.requests;
-    let kind = states::kind_at(kinds, r);
-    let g = states::number_at(named, r);
-    let group = states::group_at(groups, g as usize);
+    let kind = tables::kind_at(kinds, r);
+    let g = tables::number_at(named, r);
+    let group = tables::group_at(groups, g as usize);
     if has_kind(kinds, requests, task.depth, kind) | (group.holder == Task::NOTHING) {
         open_request(state, t, r, g)
     } else {
@@ -158,11 +158,11 @@ fn complete(state: State, named: [u8; SetUp::RESOURCES], t: u8, r: u8) -> State
     let groups = state.groups;
     let closed = close_request(state, t);
     let tasks = closed.tasks;
-    let task = states::task_at(tasks, t);
+    let task = tables::task_at(tasks, t);
     let requests = task.requests;
-    let kind = states::kind_at(kinds, r);
-    let g = states::number_at(named, r);
-    let group = states::group_at(groups, g as usize);
+    let kind = tables::kind_at(kinds, r);
+    let g = tables::number_at(named, r);
+    let group = tables::group_at(groups, g as usize);
     let queue = group.queue;
     let idle = queue.len == 0;
     if has_kind(kinds, requests, task.depth, kind) {

@@ -45,7 +45,7 @@ fn is_open(requests: [u8; Task::REQUESTS], depth: usize, r: u8) -> bool
 {
     let mut some = false;
     for i in 0..depth {
-        some = some | (states::request_at(requests, i) == r);
+        some = some | (tables::request_at(requests, i) == r);
     }
     some
 }
@@ -60,14 +60,14 @@ fn is_misplaced(
 ) -> bool
     ensures { λ o. ⌜ o ≡ anyBelow depth (λ i. isApart kinds named r (getD requests i nobody)) ⌝ }
 {
-    let kind = states::kind_at(kinds, r);
-    let group = states::number_at(named, r);
+    let kind = tables::kind_at(kinds, r);
+    let group = tables::number_at(named, r);
     let mut some = false;
     for i in 0..depth {
-        let q = states::request_at(requests, i);
-        let other = states::kind_at(kinds, q);
+        let q = tables::request_at(requests, i);
+        let other = tables::kind_at(kinds, q);
         let inside = (kind == SetUp::LONG) & (other == SetUp::SHORT);
-        some = some | (inside | ((other == kind) & (states::number_at(named, q) != group)));
+        some = some | (inside | ((other == kind) & (tables::number_at(named, q) != group)));
     }
     some
 }
@@ -76,9 +76,9 @@ fn newest(requests: [u8; Task::REQUESTS], depth: usize) -> u8
     ensures { λ r. ⌜ r ≡ getD requests (depth - 1) nobody ⌝ }
 {
     if 0 < depth {
-        states::request_at(requests, depth - 1)
+        tables::request_at(requests, depth - 1)
     } else {
-        states::request_at(requests, 0)
+        tables::request_at(requests, 0)
     }
 }
 
@@ -111,14 +111,14 @@ pub fn judge_sound(state: State, named: [u8; SetUp::RESOURCES], e: Event) -> u8
     let kind = e.kind;
     let t = e.task;
     let r = e.resource;
-    let task = states::task_at(tasks, t);
+    let task = tables::task_at(tasks, t);
     let standing = task.standing;
     let requests = task.requests;
     let depth = task.depth;
     let stand = states::stand_of(standing);
     let hinders = hindrance_of(states::situation_of(stand, p, t));
     let now = clock_after(state.clock, e.tick);
-    let due = (task.last as u64) + (states::period_at(periods, t) as u64);
+    let due = (task.last as u64) + (tables::period_at(periods, t) as u64);
     let comes = kind == Event::ARRIVAL;
     let asks = kind == Event::REQUEST;
     let acts = (Event::FINISH <= kind) & (kind <= Event::COMPLETION);

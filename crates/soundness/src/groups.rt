@@ -1,7 +1,7 @@
 // Each group's holder and queue.
-use crate::tables::asked_of;
-use crate::tables::stand_at;
-use crate::tables::stands_of;
+use crate::standings::asked_of;
+use crate::standings::stand_at;
+use crate::standings::stands_of;
 use input::SetUp;
 use protocol::State;
 use protocol::Task;
@@ -33,7 +33,7 @@ fn some_in(
 {
     let mut some = false;
     for i in 0..depth {
-        some = some | (states::number_at(groups, states::request_at(requests, i)) == g);
+        some = some | (tables::number_at(groups, tables::request_at(requests, i)) == g);
     }
     some
 }
@@ -54,7 +54,7 @@ fn all_wait_here(
         let t = queue.waiter(i);
         ok = ok
             & ((Task::SPINNING <= stand_at(stands, t))
-                & (states::number_at(groups, states::number_at(asked, t)) == g));
+                & (tables::number_at(groups, tables::number_at(asked, t)) == g));
     }
     ok
 }
@@ -83,10 +83,10 @@ fn group_holds(
 {
     let all = state.groups;
     let tasks = state.tasks;
-    let group = states::group_at(all, g as usize);
+    let group = tables::group_at(all, g as usize);
     let holder = group.holder;
     let queue = group.queue;
-    let task = states::task_at(tasks, holder);
+    let task = tables::task_at(tasks, holder);
     let requests = task.requests;
     if queue.is_tidy() {
         let held = (holder == Task::NOTHING) | some_in(named, requests, task.depth, g);

@@ -3,7 +3,7 @@ use input::SetUp;
 
 mod groups;
 mod requests;
-mod tables;
+mod standings;
 mod tasks;
 mod testing;
 

@@ -31,10 +31,10 @@ fn all_held(
 {
     let mut ok = true;
     for i in 0..depth {
-        let r = states::request_at(requests, i);
+        let r = tables::request_at(requests, i);
         ok = ok
             & (((r as usize) < resources)
-                & (states::number_at(holders, states::number_at(groups, r)) == t));
+                & (tables::number_at(holders, tables::number_at(groups, r)) == t));
     }
     ok
 }
@@ -44,10 +44,10 @@ fn is_once(requests: [u8; Task::REQUESTS], depth: usize, i: usize) -> bool
     requires { ⌜ depth ≤ mostRequests ⌝ }
     ensures { λ r. ⌜ r ≡ isOnce requests depth i ⌝ }
 {
-    let r = states::request_at(requests, i);
+    let r = tables::request_at(requests, i);
     let mut ok = true;
     for k in 0..depth {
-        ok = ok & ((r != states::request_at(requests, k)) | (i == k));
+        ok = ok & ((r != tables::request_at(requests, k)) | (i == k));
     }
     ok
 }
@@ -70,7 +70,7 @@ fn longs_before(kinds: [u8; SetUp::RESOURCES], requests: [u8; Task::REQUESTS], i
 {
     let mut ok = true;
     for k in 0..i {
-        ok = ok & (states::kind_at(kinds, states::request_at(requests, k)) == SetUp::LONG);
+        ok = ok & (tables::kind_at(kinds, tables::request_at(requests, k)) == SetUp::LONG);
     }
     ok
 }
@@ -85,7 +85,7 @@ fn all_longs_first(
 {
     let mut ok = true;
     for i in 0..depth {
-        let is_long = states::kind_at(kinds, states::request_at(requests, i)) == SetUp::LONG;
+        let is_long = tables::kind_at(kinds, tables::request_at(requests, i)) == SetUp::LONG;
         ok = ok & (!is_long | longs_before(kinds, requests, i));
     }
     ok
@@ -102,13 +102,13 @@ fn is_together(
     requires { ⌜ depth ≤ mostRequests ⌝ }
     ensures { λ r. ⌜ r ≡ isTogether kinds groups requests depth i ⌝ }
 {
-    let a = states::request_at(requests, i);
+    let a = tables::request_at(requests, i);
     let mut ok = true;
     for k in 0..depth {
-        let b = states::request_at(requests, k);
+        let b = tables::request_at(requests, k);
         ok = ok
-            & ((states::kind_at(kinds, a) != states::kind_at(kinds, b))
-                | (states::number_at(groups, a) == states::number_at(groups, b)));
+            & ((tables::kind_at(kinds, a) != tables::kind_at(kinds, b))
+                | (tables::number_at(groups, a) == tables::number_at(groups, b)));
     }
     ok
 }
@@ -142,7 +142,7 @@ fn requests_hold(
     let setup = state.setup;
     let kinds = setup.kinds;
     let tasks = state.tasks;
-    let task = states::task_at(tasks, t);
+    let task = tables::task_at(tasks, t);
     let standing = task.standing;
     let requests = task.requests;
     let depth = task.depth;
@@ -188,7 +188,7 @@ fn none_of(
 {
     let mut ok = true;
     for i in 0..depth {
-        ok = ok & (states::kind_at(kinds, states::request_at(requests, i)) != kind);
+        ok = ok & (tables::kind_at(kinds, tables::request_at(requests, i)) != kind);
     }
     ok
 }
@@ -200,16 +200,16 @@ fn waiting_holds(state: State, groups: [u8; SetUp::RESOURCES], t: u8) -> bool
     let setup = state.setup;
     let kinds = setup.kinds;
     let tasks = state.tasks;
-    let task = states::task_at(tasks, t);
+    let task = tables::task_at(tasks, t);
     let standing = task.standing;
     let stand = states::stand_of(standing);
     if stand < Task::SPINNING {
         return true;
     }
     let asked = states::asked_of(standing);
-    let kind = states::kind_at(kinds, asked);
+    let kind = tables::kind_at(kinds, asked);
     let all = state.groups;
-    let group = states::group_at(all, states::number_at(groups, asked) as usize);
+    let group = tables::group_at(all, tables::number_at(groups, asked) as usize);
     let queue = group.queue;
     let requests = task.requests;
     let depth = task.depth;

@@ -35,11 +35,11 @@ fn times_hold(state: State, t: u8) -> bool
     let setup = state.setup;
     let periods = setup.periods;
     let tasks = state.tasks;
-    let task = states::task_at(tasks, t);
+    let task = tables::task_at(tasks, t);
     let standing = task.standing;
     let totals = task.totals;
     let stand = states::stand_of(standing);
-    let due = (task.last as u64) + (states::period_at(periods, t) as u64);
+    let due = (task.last as u64) + (tables::period_at(periods, t) as u64);
     let between = !task.arrived | ((setup.start <= task.last) & (task.last <= state.clock));
     let dated = (stand == Task::ABSENT) | (task.arrived & (task.deadline == due));
     let undated = (stand != Task::ABSENT) | (task.deadline == 0);
@@ -62,7 +62,7 @@ fn requests_end(requests: [u8; Task::REQUESTS], depth: usize) -> bool
 {
     let mut ok = true;
     for i in 0..Task::REQUESTS {
-        ok = ok & (!(depth <= i) | (states::request_at(requests, i) == Task::NOTHING));
+        ok = ok & (!(depth <= i) | (tables::request_at(requests, i) == Task::NOTHING));
     }
     ok
 }
@@ -72,7 +72,7 @@ fn empty_holds(state: State, t: u8) -> bool
 {
     let setup = state.setup;
     let tasks = state.tasks;
-    let task = states::task_at(tasks, t);
+    let task = tables::task_at(tasks, t);
     let standing = task.standing;
     let requests = task.requests;
     let totals = task.totals;

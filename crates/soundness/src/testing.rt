@@ -30,7 +30,7 @@ fn locks_hold(state: State, named: [u8; SetUp::RESOURCES]) -> bool
     ensures { λ r. ⌜ r ≡ locksSound state ⌝ }
 {
     let groups = state.groups;
-    let holders = states::holders_of(groups);
+    let holders = tables::holders_of(groups);
     if all_requests(state, named, holders) {
         all_waiting(state, named) & all_groups(state, named)
     } else {

@@ -1,6 +1,4 @@
 // What a set-up gives.
-use crate::standings::no_group;
-use crate::standings::no_task;
 use input::SetUp;
 use protocol::Group;
 use protocol::Reply;
@@ -29,8 +27,8 @@ fn no_set_up() -> SetUp
 fn fresh(setup: SetUp) -> State
     ensures { λ r. ⌜ r ≡ freshState setup ⌝ }
 {
-    let task = no_task();
-    let group = no_group();
+    let task = tables::no_task();
+    let group = tables::no_group();
     let tasks: [Task; SetUp::TASKS] = [task; SetUp::TASKS];
     let groups: [Group; SetUp::RESOURCES] = [group; SetUp::RESOURCES];
     let processors = processors::none_linked(setup.processors);

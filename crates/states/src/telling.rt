@@ -1,7 +1,6 @@
 // What is told of a state: situations, totals, links and placements.
 use crate::standings::situation_of;
 use crate::standings::stand_of;
-use crate::standings::task_at;
 use processors::Processors;
 use protocol::Reply;
 use protocol::Situation;
@@ -19,7 +18,7 @@ pub fn situation(state: State, t: u8) -> Situation
 {
     let tasks = state.tasks;
     let p = state.processors;
-    let task = task_at(tasks, t);
+    let task = tables::task_at(tasks, t);
     let standing = task.standing;
     situation_of(stand_of(standing), p, t)
 }
@@ -29,7 +28,7 @@ pub fn totals_of(state: State, t: u8) -> [u32; Task::TOTALS]
     ensures { λ r. ⌜ r ≡ taskRecord state t .totals ⌝ }
 {
     let tasks = state.tasks;
-    let task = task_at(tasks, t);
+    let task = tables::task_at(tasks, t);
     task.totals
 }
 

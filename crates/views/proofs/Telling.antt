@@ -17,7 +17,7 @@ use Rattle.protocol.specs.Ranks.{own, modeFor, longHeld, effective, shortOpen, 
 use Rattle.protocol.specs.declared.Task.{Task}
 use Rattle.protocol.specs.declared.Group.{Group}
 use Rattle.protocol.specs.declared.State.{State}
-use Rattle.states.specs.Tables.{holderIn}
+use Rattle.tables.specs.Holders.{holderIn}
 use Rattle.views.specs.Bounds.{ownIn, rankAt, heldBy, jobWith}
 
 -- the job of task t, as tables of ranks and of holders tell it; the same from a state, and from the state's own tables

@@ -10,7 +10,7 @@ use Rattle.input.specs.Limits.{mostTasks}
 use Rattle.protocol.specs.Events.{charged}
 use Rattle.protocol.specs.Words.{stand}
 use Rattle.protocol.specs.Situations.{situation}
-use Rattle.states.proofs.Reading.{task-read}
+use Rattle.tables.proofs.Reading.{task-read}
 use Rattle.locking.proofs.Charging.{rest-at, chargedAt, chargedTo}
 use Rattle.locking.proofs.events.charge.Statement.{statement}
 use Rattle.locking.proofs.events.charge.Tie as tie

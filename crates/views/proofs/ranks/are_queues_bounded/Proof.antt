@@ -9,7 +9,7 @@ use Rattle.search.specs.Below.{allBelow}
 use Rattle.input.specs.Limits.{mostResources}
 use Rattle.protocol.specs.Words.{noGroup}
 use Rattle.views.specs.Bounds.{queueBounded}
-use Rattle.states.proofs.Reading.{group-read}
+use Rattle.tables.proofs.Reading.{group-read}
 use Rattle.views.proofs.ranks.are_queues_bounded.Statement.{statement}
 use Rattle.views.proofs.ranks.are_queues_bounded.Tie as tie
 

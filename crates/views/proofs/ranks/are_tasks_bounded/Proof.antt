@@ -9,7 +9,7 @@ use Rattle.search.specs.Below.{allBelow}
 use Rattle.input.specs.Limits.{mostTasks}
 use Rattle.protocol.specs.Words.{noTask}
 use Rattle.views.specs.Bounds.{taskBounded}
-use Rattle.states.proofs.Reading.{task-read}
+use Rattle.tables.proofs.Reading.{task-read}
 use Rattle.views.proofs.ranks.are_tasks_bounded.Statement.{statement}
 use Rattle.views.proofs.ranks.are_tasks_bounded.Tie as tie
 

@@ -13,7 +13,7 @@ use Rattle.processors.specs.declared.Jobs.{Jobs}
 use Rattle.input.specs.Limits.{mostTasks, mostResources}
 use Rattle.protocol.specs.Words.{noGroup}
 use Rattle.views.specs.Bounds.{noJobs}
-use Rattle.states.proofs.Reading.{task-read, group-read}
+use Rattle.tables.proofs.Reading.{task-read, group-read}
 use Rattle.views.proofs.Bounding.{resources-bounded, tasks-bounded, depth-bounded}
 use Rattle.views.proofs.Telling.{jobIn, jobFrom, jobs-told}
 use Rattle.views.proofs.ranks.jobs_within.Statement.{statement}

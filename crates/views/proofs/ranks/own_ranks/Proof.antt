@@ -11,7 +11,7 @@ use Rattle.search.proofs.Tests.{tests, allBelow-at}
 use Rattle.input.specs.Limits.{mostTasks}
 use Rattle.protocol.specs.Words.{noTask}
 use Rattle.views.specs.Bounds.{taskBounded, ownIn}
-use Rattle.states.proofs.Reading.{task-read}
+use Rattle.tables.proofs.Reading.{task-read}
 use Rattle.views.proofs.ranks.own_ranks.Statement.{statement}
 use Rattle.views.proofs.ranks.own_ranks.Tie as tie
 
