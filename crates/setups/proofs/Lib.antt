@@ -1,4 +1,5 @@
 pub mod Accepted
 pub mod Cleared
+pub mod Emptied
 pub mod Lists
 pub mod Names

@@ -1,85 +1,67 @@
-// A set-up with everything past its counts cleared.
+// A set-up with everything past its counts cleared. Its tables differ in length, so they are lent as slices.
 use input::SetUp;
 ghost use mathlib.Core.Path.{_≡_};
-ghost use Rattle.input.specs.Limits.{mostTasks, mostResources, mostPairs};
+ghost use lib.ListN.{length};
 ghost use Rattle.setups.specs.Clearing.{below, cleared, emptyFrom, isClear};
 
-fn periods_below(count: usize, periods: [u16; SetUp::TASKS]) -> [u16; SetUp::TASKS]
-    ensures { λ r. ⌜ r ≡ below count mostTasks periods ⌝ }
+// The places from `count` on become 0: one function for the tables of bytes, and one for the periods.
+fn clear_from(table: &mut [u8], count: usize)
+    ensures { λ _. ⌜ now (table .exit) ≡ below count (length (now (table .entry))) (now (table .entry)) ⌝ }
 {
-    let mut kept = [0u16; SetUp::TASKS];
-    for i in 0..SetUp::TASKS {
-        kept[i] = if i < count { periods[i] } else { 0 };
+    for i in count..table.len() {
+        table[i] = 0;
     }
-    kept
 }
 
-fn kinds_below(count: usize, kinds: [u8; SetUp::RESOURCES]) -> [u8; SetUp::RESOURCES]
-    ensures { λ r. ⌜ r ≡ below count mostResources kinds ⌝ }
+fn clear_periods_from(periods: &mut [u16], count: usize)
+    ensures { λ _. ⌜ now (periods .exit) ≡ below count (length (now (periods .entry))) (now (periods .entry)) ⌝ }
 {
-    let mut kept = [0u8; SetUp::RESOURCES];
-    for i in 0..SetUp::RESOURCES {
-        kept[i] = if i < count { kinds[i] } else { 0 };
+    for i in count..periods.len() {
+        periods[i] = 0;
     }
-    kept
-}
-
-fn pairs_below(count: usize, side: [u8; SetUp::PAIRS]) -> [u8; SetUp::PAIRS]
-    ensures { λ r. ⌜ r ≡ below count mostPairs side ⌝ }
-{
-    let mut kept = [0u8; SetUp::PAIRS];
-    for i in 0..SetUp::PAIRS {
-        kept[i] = if i < count { side[i] } else { 0 };
-    }
-    kept
 }
 
 pub fn clear(setup: SetUp) -> SetUp
     ensures { λ r. ⌜ r ≡ cleared setup ⌝ }
 {
-    let periods = setup.periods;
-    let kinds = setup.kinds;
-    let outer = setup.outer;
-    let inner = setup.inner;
+    let mut periods = setup.periods;
+    let mut kinds = setup.kinds;
+    let mut outer = setup.outer;
+    let mut inner = setup.inner;
+    clear_periods_from(&mut periods, setup.tasks);
+    clear_from(&mut kinds, setup.resources);
+    clear_from(&mut outer, setup.pairs);
+    clear_from(&mut inner, setup.pairs);
     SetUp {
         processors: setup.processors,
         tasks: setup.tasks,
         resources: setup.resources,
         pairs: setup.pairs,
         start: setup.start,
-        periods: periods_below(setup.tasks, periods),
-        kinds: kinds_below(setup.resources, kinds),
-        outer: pairs_below(setup.pairs, outer),
-        inner: pairs_below(setup.pairs, inner),
+        periods,
+        kinds,
+        outer,
+        inner,
     }
 }
 
-fn periods_end(count: usize, periods: [u16; SetUp::TASKS]) -> bool
-    ensures { λ r. ⌜ r ≡ emptyFrom count mostTasks periods ⌝ }
+// The places from `count` on are 0.
+fn is_empty_from(table: &[u8], count: usize) -> bool
+    ensures { λ r. ⌜ r ≡ emptyFrom count (length (now (table .entry))) (now (table .entry)) ⌝ }
 {
     let mut empty = true;
-    for i in 0..SetUp::TASKS {
-        empty = empty & (!(count <= i) | (periods[i] == 0));
-    }
-    empty
-}
-
-fn kinds_end(count: usize, kinds: [u8; SetUp::RESOURCES]) -> bool
-    ensures { λ r. ⌜ r ≡ emptyFrom count mostResources kinds ⌝ }
-{
-    let mut empty = true;
-    for i in 0..SetUp::RESOURCES {
-        empty = empty & (!(count <= i) | (kinds[i] == 0));
+    for i in count..table.len() {
+        empty = empty & (table[i] == 0);
     }
     empty
 }
 
-fn pairs_end(count: usize, side: [u8; SetUp::PAIRS]) -> bool
-    ensures { λ r. ⌜ r ≡ emptyFrom count mostPairs side ⌝ }
+fn has_no_period_from(periods: &[u16], count: usize) -> bool
+    ensures { λ r. ⌜ r ≡ emptyFrom count (length (now (periods .entry))) (now (periods .entry)) ⌝ }
 {
     let mut empty = true;
-    for i in 0..SetUp::PAIRS {
-        empty = empty & (!(count <= i) | (side[i] == 0));
+    for i in count..periods.len() {
+        empty = empty & (periods[i] == 0);
     }
     empty
 }
@@ -88,10 +70,8 @@ fn pairs_end(count: usize, side: [u8; SetUp::PAIRS]) -> bool
 pub fn is_clear(setup: SetUp) -> bool
     ensures { λ r. ⌜ r ≡ isClear setup ⌝ }
 {
-    let periods = setup.periods;
-    let kinds = setup.kinds;
-    let outer = setup.outer;
-    let inner = setup.inner;
-    let pairs = pairs_end(setup.pairs, outer) & pairs_end(setup.pairs, inner);
-    periods_end(setup.tasks, periods) & kinds_end(setup.resources, kinds) & pairs
+    has_no_period_from(&setup.periods, setup.tasks)
+        & is_empty_from(&setup.kinds, setup.resources)
+        & is_empty_from(&setup.outer, setup.pairs)
+        & is_empty_from(&setup.inner, setup.pairs)
 }
