@@ -1,24 +1,12 @@
-// The printed lines, each into a lent buffer.
-mod numbers;
+// The printed lines, each into a lent buffer: those of a state, and with them those that need none.
 mod of_states;
-mod writing;
 
-pub use numbers::block_line;
-pub use numbers::counts_line;
-pub use numbers::places_line;
-pub use numbers::set_up_line;
-pub use numbers::totals_line;
 pub use of_states::event_line;
 pub use of_states::first_line;
 pub use of_states::task_line;
-
-// A line's number from the list, and its length: 0 where it is refused.
-pub struct Line {
-    pub number: u8,
-    pub len: usize,
-}
-
-impl Line {
-    // A line's buffer has so many bytes, or more.
-    pub const LIMIT: usize = 96;
-}
+pub use texts::Line;
+pub use texts::block_line;
+pub use texts::counts_line;
+pub use texts::places_line;
+pub use texts::set_up_line;
+pub use texts::totals_line;

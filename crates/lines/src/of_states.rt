@@ -1,10 +1,9 @@
 // The lines of a state: the sound test, and then a line that needs no state.
-use crate::Line;
-use crate::numbers::counts_line;
-use crate::numbers::places_line;
-use crate::numbers::refused;
-use crate::numbers::totals_line;
 use protocol::State;
+use texts::Line;
+use texts::counts_line;
+use texts::places_line;
+use texts::totals_line;
 ghost use mathlib.Core.Path.{_≡_};
 ghost use Rattle.lines.specs.Lines.{firstLine, eventLine, taskLine};
 
@@ -13,7 +12,7 @@ pub fn first_line(state: State, out: &mut [u8]) -> Line
     ensures { λ r. ⌜ (r, now (out .exit)) ≡ firstLine (now (out .entry)) state ⌝ }
 {
     if !soundness::is_sound(state) {
-        return refused(9);
+        return Line { number: 9, len: 0 };
     }
     let setup = state.setup;
     counts_line(setup.processors, setup.tasks, setup.start, out)
@@ -24,7 +23,7 @@ pub fn event_line(state: State, number: u64, answer: u8, out: &mut [u8]) -> Line
     ensures { λ r. ⌜ (r, now (out .exit)) ≡ eventLine (now (out .entry)) state number answer ⌝ }
 {
     if !soundness::is_sound(state) {
-        return refused(9);
+        return Line { number: 9, len: 0 };
     }
     let setup = state.setup;
     let p = state.processors;
@@ -37,11 +36,11 @@ pub fn task_line(state: State, t: u8, out: &mut [u8]) -> Line
     ensures { λ r. ⌜ (r, now (out .exit)) ≡ taskLine (now (out .entry)) state t ⌝ }
 {
     if !soundness::is_sound(state) {
-        return refused(9);
+        return Line { number: 9, len: 0 };
     }
     let setup = state.setup;
     if setup.tasks <= t as usize {
-        return refused(11);
+        return Line { number: 11, len: 0 };
     }
     totals_line(t, states::totals_of(state, t), out)
 }

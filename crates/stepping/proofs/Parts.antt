@@ -8,9 +8,9 @@ use lib.ListN.{length, set, take, drop, length-drop, drop-of-length-le}
 use lib.Seq.{length-take-le, take-all, take-set-le, drop-set-add, take-append-seam, drop-at, drop-drop, sets, sets-eq}
 use borrow.Author.Tests.{le-ltb}
 use Rattle.states.specs.Writing.{written}
-use Rattle.lines.specs.Texts.{Put}
-use Rattle.lines.specs.Lines.{lineLimit, lineInto, narrow}
-use Rattle.lines.specs.declared.Line.{Line}
+use Rattle.texts.specs.Texts.{Put}
+use Rattle.texts.specs.Lines.{lineLimit, lineInto, narrow}
+use Rattle.texts.specs.declared.Line.{Line}
 
 -- ---- a text written into a buffer
 written-sets : (bytes : List ℕ) (at : ℕ) (text : List ℕ) → written bytes at text ≡ sets bytes at text

@@ -11,9 +11,9 @@ use Rattle.states.specs.Writing.{lineSize}
 use Rattle.locking.specs.Playing.{playable, playedTo, writtenTo, played}
 use Rattle.states.proofs.Writing.{written-long}
 use Rattle.blocks.specs.Sizes.{mostEvents}
-use Rattle.lines.specs.Texts.{Put}
-use Rattle.lines.specs.Lines.{lineLimit, lineInto, narrow}
-use Rattle.lines.specs.declared.Line.{Line}
+use Rattle.texts.specs.Texts.{Put}
+use Rattle.texts.specs.Lines.{lineLimit, lineInto, narrow}
+use Rattle.texts.specs.declared.Line.{Line}
 use Rattle.stepping.specs.Pages.{wide, eventsText, eventPage, pageLimit, paged}
 use Rattle.stepping.specs.declared.Session.{Session}
 use Rattle.stepping.specs.declared.Page.{Page}

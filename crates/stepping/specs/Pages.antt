@@ -17,8 +17,8 @@ use Rattle.blocks.specs.Sizes.{mostEvents}
 use Rattle.blocks.specs.Verdicts.{verdict, usedPart}
 use Rattle.blocks.specs.declared.Verdict.{Verdict}
 use Rattle.blocks.specs.declared.Verdict.the-variants.{Used, Refused}
-use Rattle.lines.specs.Texts.{eachText}
-use Rattle.lines.specs.Lines.{lineLimit, firstText, eventText, taskLineText, blockText, setUpText}
+use Rattle.texts.specs.Texts.{eachText}
+use Rattle.texts.specs.Lines.{lineLimit, firstText, eventText, taskLineText, blockText, setUpText}
 use Rattle.stepping.specs.declared.Session.{Session}
 use Rattle.stepping.specs.declared.Page.{Page}
 

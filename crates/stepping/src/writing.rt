@@ -8,8 +8,8 @@ ghost use Prim.Native.Nat.{_+_, _*_, _≤_, min};
 ghost use lib.ListN.{length, take, drop};
 ghost use Rattle.input.specs.Limits.{mostTasks};
 ghost use Rattle.states.specs.Writing.{lineSize};
-ghost use Rattle.lines.specs.Texts.{Put};
-ghost use Rattle.lines.specs.Lines.{eventText, taskLineText, lineLimit};
+ghost use Rattle.texts.specs.Texts.{Put};
+ghost use Rattle.texts.specs.Lines.{eventText, taskLineText, lineLimit};
 ghost use Rattle.stepping.specs.Pages.{eventsText, tasksText};
 
 // An event's line from a place on; gives the place behind it.

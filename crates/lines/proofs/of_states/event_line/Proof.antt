@@ -1,17 +1,14 @@
 use borrow.Author.Needs.{needs}
 use mathlib.Core.Path.{refl, _∙_}
-use Rattle.lines.proofs.Laws.{line-refused, line-passed}
+use Rattle.texts.proofs.Laws.{line-refused, line-passed}
 use Rattle.lines.proofs.of_states.event_line.Statement.{statement}
 use Rattle.lines.proofs.of_states.event_line.Tie as tie
 
 is-sound-requires : tie.Need-is-sound-requires
 is-sound-requires c κs = search needs
 
-refused-requires : tie.Need-refused-requires
-refused-requires c κs = search needs
-
 returns : tie.Need-returns
-returns c = rw (c .refused .ensures) (line-refused _ _ 9 _ refl (rw (c .before .before .is-sound .ensures) at (c .before .if1 .taken)))
+returns c = line-refused _ _ 9 _ refl (rw (c .before .is-sound .ensures) at (c .if1 .taken))
 
 line-of-requires : tie.Need-line-of-requires
 line-of-requires c κs = search needs
@@ -33,7 +30,6 @@ event-line-spec =
     tie.close
     (tie.spec
     is-sound-requires
-    refused-requires
     returns
     line-of-requires
     slice-aggregate-places-line

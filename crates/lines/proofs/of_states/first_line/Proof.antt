@@ -1,17 +1,14 @@
 use borrow.Author.Needs.{needs}
 use mathlib.Core.Path.{refl, _∙_}
-use Rattle.lines.proofs.Laws.{line-refused, line-passed}
+use Rattle.texts.proofs.Laws.{line-refused, line-passed}
 use Rattle.lines.proofs.of_states.first_line.Statement.{statement}
 use Rattle.lines.proofs.of_states.first_line.Tie as tie
 
 is-sound-requires : tie.Need-is-sound-requires
 is-sound-requires c κs = search needs
 
-refused-requires : tie.Need-refused-requires
-refused-requires c κs = search needs
-
 returns : tie.Need-returns
-returns c = rw (c .refused .ensures) (line-refused _ _ 9 _ refl (rw (c .before .before .is-sound .ensures) at (c .before .if1 .taken)))
+returns c = line-refused _ _ 9 _ refl (rw (c .before .is-sound .ensures) at (c .if1 .taken))
 
 counts-line-requires : tie.Need-counts-line-requires
 counts-line-requires c κs = search needs
@@ -27,7 +24,6 @@ first-line-spec =
     tie.close
     (tie.spec
     is-sound-requires
-    refused-requires
     returns
     counts-line-requires
     same-length

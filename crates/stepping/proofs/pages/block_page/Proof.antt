@@ -3,7 +3,7 @@ use native.Mathlib.Omega.{arith}
 use borrow.Author.Needs.{needs}
 use borrow.Author.Tests.{eq-eqb, ne-eqb}
 use Rattle.blocks.proofs.Limits.{used-index, used-events}
-use Rattle.lines.proofs.Lengths.{block-short}
+use Rattle.texts.proofs.Lengths.{block-short}
 use Rattle.stepping.proofs.Printed.{page-line}
 use Rattle.stepping.proofs.pages.block_page.Statement.{statement}
 use Rattle.stepping.proofs.pages.block_page.Tie as tie

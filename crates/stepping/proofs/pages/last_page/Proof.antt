@@ -1,7 +1,7 @@
 use native.Mathlib.Omega.{arith}
 use borrow.Author.Needs.{needs}
 use borrow.Author.Tests.{eq-eqb, ne-eqb}
-use Rattle.lines.proofs.Lengths.{block-short}
+use Rattle.texts.proofs.Lengths.{block-short}
 use Rattle.stepping.proofs.Printed.{page-put, page-line}
 use Rattle.stepping.proofs.pages.last_page.Statement.{statement}
 use Rattle.stepping.proofs.pages.last_page.Tie as tie

@@ -2,7 +2,7 @@ use mathlib.Core.Path.{refl}
 use native.Mathlib.Omega.{arith}
 use borrow.Author.Needs.{needs}
 use borrow.Author.Tests.{eq-eqb, ne-eqb}
-use Rattle.lines.proofs.Lengths.{first-short, set-up-short}
+use Rattle.texts.proofs.Lengths.{first-short, set-up-short}
 use Rattle.stepping.proofs.Printed.{page-line}
 use Rattle.stepping.proofs.pages.set_up_page.Statement.{statement}
 use Rattle.stepping.proofs.pages.set_up_page.Tie as tie

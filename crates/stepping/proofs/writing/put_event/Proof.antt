@@ -1,7 +1,7 @@
 -- `put_event` meets its contract. Assumes nothing.
 use native.Mathlib.Omega.{arith}
 use borrow.Author.Needs.{needs}
-use Rattle.lines.proofs.Lengths.{event-short}
+use Rattle.texts.proofs.Lengths.{event-short}
 use Rattle.stepping.proofs.Parts.{put-line}
 use Rattle.stepping.proofs.writing.put_event.Statement.{statement}
 use Rattle.stepping.proofs.writing.put_event.Tie as tie

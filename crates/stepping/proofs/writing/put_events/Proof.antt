@@ -6,9 +6,9 @@ use native.Mathlib.Omega.{arith}
 use lib.ListN.{length, take, drop}
 use borrow.Author.Needs.{needs}
 use Rattle.states.specs.Writing.{lineSize}
-use Rattle.lines.specs.Texts.{eachText, Put}
-use Rattle.lines.specs.Lines.{lineLimit}
-use Rattle.lines.proofs.Laws.{put-none, put-more}
+use Rattle.texts.specs.Texts.{eachText, Put}
+use Rattle.texts.specs.Lines.{lineLimit}
+use Rattle.texts.proofs.Laws.{put-none, put-more}
 use Rattle.stepping.specs.Pages.{wide, eventsText}
 use Rattle.stepping.proofs.writing.put_events.Statement.{statement}
 use Rattle.stepping.proofs.writing.put_events.Tie as tie

@@ -7,7 +7,7 @@ use mir.Syntax.{w32}
 use mir.Val.{Fits}
 use borrow.Author.Needs.{needs}
 use Rattle.protocol.specs.Words.{totalCount}
-use Rattle.lines.proofs.Lengths.{totals-short}
+use Rattle.texts.proofs.Lengths.{totals-short}
 use Rattle.stepping.proofs.Parts.{put-line}
 use Rattle.stepping.proofs.writing.put_task.Statement.{statement}
 use Rattle.stepping.proofs.writing.put_task.Tie as tie

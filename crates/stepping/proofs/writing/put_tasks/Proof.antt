@@ -4,9 +4,9 @@ use mathlib.Core.Path.{_≡_, _∙_}
 use native.Mathlib.Omega.{arith}
 use lib.ListN.{length}
 use borrow.Author.Needs.{needs}
-use Rattle.lines.specs.Texts.{eachText, Put}
-use Rattle.lines.specs.Lines.{lineLimit}
-use Rattle.lines.proofs.Laws.{put-none, put-more}
+use Rattle.texts.specs.Texts.{eachText, Put}
+use Rattle.texts.specs.Lines.{lineLimit}
+use Rattle.texts.proofs.Laws.{put-none, put-more}
 use Rattle.stepping.specs.Pages.{tasksText}
 use Rattle.stepping.proofs.writing.put_tasks.Statement.{statement}
 use Rattle.stepping.proofs.writing.put_tasks.Tie as tie
