@@ -1,8 +1,9 @@
 -- What the code of an accepted event needs holds of a sound state that accepts it. Assumes nothing.
 use Prim.Native.Nat.{ℕ, _+_, _*_, _-_, _<_, _≤_, _%_}
 use mathlib.Core.Path.{_≡_, refl, ap, _∙_}
-use mathlib.Core.Bool.{true, false, not}
+use mathlib.Core.Bool.{Bool, true, false, not}
 use native.Mathlib.Omega.{arith}
+use borrow.Author.Tests.{eq-eqb, ne-eqb}
 use native.Mathlib.Decide.{ℕ-discrete, decLt}
 use Rattle.search.proofs.Tests.{tests}
 use Rattle.search.proofs.Refusals.{none-iff, NoneApplies}
@@ -32,6 +33,20 @@ unsound-judged s e h = rw h
 pub unsound-stepped : (s : State) (e : Event) → sound s ≡ false → step s e ≡ record { answer = 9; state = s }
 unfolding step
 unsound-stepped s e h = rw (unsound-judged s e h)
+
+pub accepted-sound : (s : State) (e : Event) → judge s e ≡ 0 → sound s ≡ true
+accepted-sound s e ok = go (sound s) refl
+  where
+    go : (b : Bool) → sound s ≡ b → sound s ≡ true
+    go true h = h
+    go false h = absurd (omega (arith, ok, unsound-judged s e h))
+
+pub step-answer : (s : State) (e : Event) → step s e .answer ≡ judge s e
+unfolding step
+step-answer s e = elim (ℕ-discrete (judge s e) 0) [
+  | yes x ↦ rw (eq-eqb (judge s e) 0 x, x)
+  | no x ↦ rw (ne-eqb (judge s e) 0 x)
+]
 
 -- ---- a sound state that accepts an event
 module _ (s : State) (e : Event) (Q : Sound s) (ok : judge s e ≡ 0) where

@@ -6,16 +6,22 @@ use mathlib.Core.List.{List, [], _∷_}
 use native.Mathlib.Numerals.{add-one}
 use native.Mathlib.Omega.{arith}
 use lib.ListN.{length}
+use Rattle.input.specs.Limits.{mostTasks}
 use Rattle.input.specs.Layout.{eventIn}
 use Rattle.input.specs.declared.Event.{Event}
+use Rattle.setups.specs.Naming.{names}
+use Rattle.protocol.specs.Words.{task}
 use Rattle.protocol.specs.Sound.{sound}
 use Rattle.protocol.specs.Events.{step, run}
 use Rattle.protocol.specs.declared.State.{State}
+use Rattle.protocol.specs.declared.Task.{Task}
 use Rattle.protocol.specs.declared.Reply.{Reply}
 use Rattle.protocol.proofs.Statements.{Sound}
 use Rattle.protocol.proofs.Reflect.{Shaped, sound-of-test, test-of-sound}
 use Rattle.protocol.proofs.Step.{step-sound, run-setup}
 use Rattle.states.specs.Writing.{lineSize, lineOf, written}
+use Rattle.soundness.specs.declared.Tested.{Tested}
+use Rattle.locking.specs.Steps.{HasParts}
 use Rattle.locking.specs.Playing.{playable, playedTo, replyTo, writtenTo}
 use Rattle.locking.proofs.Accepted.{unsound-stepped}
 use Rattle.states.proofs.Writing.{written-long}
@@ -49,10 +55,31 @@ module _ (s : State) (part : List ℕ) where
       go true h = let K = sound-along (sound-of-test s Z h) n in (test-of-sound _ (K .0) ∙ sym h, K .1)
       go false h = let K = unsound-along h n in (ap sound K, ap (λ (x : State). x .setup) K)
 
+  pub tasks-along : Shaped s → (n : ℕ) → length (playedTo s part n .tasks) ≡ mostTasks
+  tasks-along Z n = go (sound s) refl
+    where
+      go : (b : Bool) → sound s ≡ b → length (playedTo s part n .tasks) ≡ mostTasks
+      go true h = sound-along (sound-of-test s Z h) n .0 .steady .sized .tasks
+      go false h = ap (λ (x : State). length (x .tasks)) (unsound-along h n) ∙ Z .sized .tasks
+
+  -- what the answer to one event more is made of
+  pub parts-along : Shaped s → (n : ℕ) (x : State) → x ≡ playedTo s part n → (r : Tested) → r ≡ record { passes = sound s; named = names (s .setup) }
+      → (e : Event) (k : Task) → k ≡ task x (e .task) → HasParts x (s .setup) (x .clock) k (x .processors) (r .named) (r .passes) e
+  parts-along Z n x h r made e k reads =
+      let K = kept-along Z n in
+      record {
+        given = sym (ap (λ (y : State). y .setup) h ∙ K .1);
+        timed = refl;
+        recorded = reads;
+        placed = refl;
+        naming = ap (λ (y : Tested). y .named) made;
+        tested = ap (λ (y : Tested). y .passes) made ∙ sym (ap sound h ∙ K .0);
+      }
+
   -- one event more
-  pub played-turn : (n : ℕ) (r : Reply) → r ≡ replyTo s part n → r .state ≡ playedTo s part (n + 1)
+  pub played-turn : (n : ℕ) (x : State) → x ≡ replyTo s part n .state → x ≡ playedTo s part (n + 1)
   unfolding playedTo
-  played-turn n r h = rw (add-one n) (ap (λ (x : Reply). x .state) h)
+  played-turn n x h = rw (add-one n) h
 
 -- ---- the buffer
 module _ (s : State) (part out : List ℕ) where
@@ -67,7 +94,7 @@ module _ (s : State) (part out : List ℕ) where
   room-along n l = omega (arith, long-along n)
 
   -- one event more
-  pub buffer-turn : (n : ℕ) (r : Reply) (line : List ℕ) → r ≡ replyTo s part n → line ≡ lineOf (r .answer) (r .state .processors)
+  pub buffer-turn : (n answer : ℕ) (x : State) (line : List ℕ) → answer ≡ replyTo s part n .answer → x ≡ replyTo s part n .state → line ≡ lineOf answer (x .processors)
       → written (writtenTo s part out n) (lineSize * n) line ≡ writtenTo s part out (n + 1)
   unfolding writtenTo
-  buffer-turn n r line h l = rw (add-one n) (ap (written (writtenTo s part out n) (lineSize * n)) (l ∙ ap (λ (x : Reply). lineOf (x .answer) (x .state .processors)) h))
+  buffer-turn n answer x line a h l = rw (add-one n, l, a, h)

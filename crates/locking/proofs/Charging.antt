@@ -1,20 +1,20 @@
 -- A pending task has a total of its own, and no total is past their sum; the loop that charges every task. Assumes nothing.
-use Prim.Native.Nat.{ℕ, zero, suc, _<_, _≤_}
-use mathlib.Core.Path.{_≡_}
+use Prim.Native.Nat.{ℕ, zero, suc, _+_, _<_, _≤_}
+use mathlib.Core.Path.{_≡_, sym, ap, _∙_}
 use mathlib.Core.Bool.{Bool, true, false}
 use mathlib.Core.List.{List, [], _∷_, _++_}
 use native.Mathlib.Omega.{arith}
 use lib.Dec.{ltb}
-use lib.ListN.{length, getD, drop}
-use lib.Seq.{drop-cons, getD-at}
-use borrow.Author.Tests.{ne-eqb}
+use lib.ListN.{length, getD, set, drop}
+use lib.Seq.{drop-cons, getD-at, set-getD}
+use borrow.Author.Tests.{eq-eqb, ne-eqb}
 use Rattle.search.specs.Words.{if_then_else_, _is_}
 use Rattle.search.specs.Table.{table}
-use Rattle.search.proofs.Tables.{table-length}
+use Rattle.search.proofs.Tables.{table-length, table-turn}
 use Rattle.processors.specs.Limits.{processors}
 use Rattle.processors.specs.Words.{linkOf, runOf}
 use Rattle.processors.specs.declared.Processors.{Processors}
-use Rattle.protocol.specs.Words.{totalCount, absent, spinning, suspended, sum, standingNo, task}
+use Rattle.protocol.specs.Words.{totalCount, absent, spinning, suspended, sum, standingNo, task, noTask}
 use Rattle.protocol.specs.Situations.{situationOf, totalOf}
 use Rattle.protocol.specs.Events.{counting}
 use Rattle.protocol.specs.declared.Situation.{Situation}
@@ -53,3 +53,13 @@ chargedAt p n s u = chargedTask p n u (task s u)
 
 abbrev pub chargedTo : Processors → ℕ → State → ℕ → State
 chargedTo p n s i = record { setup = s .setup; clock = s .clock; tasks = table (chargedAt p n s) i ++ drop i (s .tasks); groups = s .groups; processors = s .processors }
+
+-- one task more, which has no job, is as it was
+pub charged-none : (p : Processors) (n : ℕ) (s : State) (i : ℕ) → i < length (s .tasks) → standingNo (task s i .standing) ≡ absent → chargedTo p n s i ≡ chargedTo p n s (i + 1)
+charged-none p n s i l h =
+    let f = chargedAt p n s in
+    let kept : task s i ≡ f i = rw (eq-eqb (standingNo (task s i .standing)) absent h) in
+    let all = table f i ++ drop i (s .tasks) in
+    let same : all ≡ table f (i + 1) ++ drop (i + 1) (s .tasks) =
+    sym (set-getD all i noTask) ∙ ap (set all i) (rest-at f (s .tasks) i noTask l ∙ kept) ∙ table-turn f (s .tasks) i l in
+    rw same

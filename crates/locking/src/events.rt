@@ -22,7 +22,7 @@ ghost use Rattle.search.specs.Words.{if_then_else_, _is_};
 ghost use Rattle.search.specs.Below.{anyBelow};
 ghost use Rattle.input.specs.Limits.{mostTasks, mostResources};
 ghost use Rattle.setups.specs.Naming.{names, groupOf};
-ghost use Rattle.protocol.specs.Words.{nobody, lastClock, sum, noTask};
+ghost use Rattle.protocol.specs.Words.{nobody, absent, standingNo, lastClock, sum, noTask};
 ghost use Rattle.protocol.specs.Situations.{totalOf};
 ghost use Rattle.protocol.specs.Locks.{frees, passes};
 ghost use Rattle.protocol.specs.Events.{arrives, leaves, softens, givesWay, arriveEvent, finishEvent, requestEvent, completeEvent, charged, act};
@@ -188,22 +188,16 @@ fn total_of(situation: Situation) -> usize
     }
 }
 
-// A task's record with `ticks` charged to the total of its situation.
-fn charge_task(task: Task, p: Processors, t: u8, ticks: u16) -> Task
-    requires { ⌜ sum (task .totals) + ticks ≤ lastClock ⌝ }
+// The record of a pending task, whose standing has the number `stand`, with `ticks` charged to the total of its situation.
+fn charge_task(task: Task, stand: u8, p: Processors, t: u8, ticks: u16) -> Task
+    requires { ⌜ (stand ≡ standingNo (task .standing)) × (stand ≡ absent → ⊥) × (sum (task .totals) + ticks ≤ lastClock) ⌝ }
     ensures { λ r. ⌜ r ≡ chargedTask p ticks t task ⌝ }
 {
-    let standing = task.standing;
-    let stand = states::stand_of(standing);
-    if stand == Task::ABSENT {
-        task
-    } else {
-        let i = total_of(states::situation_of(stand, p, t));
-        let totals = task.totals;
-        let mut next = task;
-        next.totals[i] = totals[i] + (ticks as u32);
-        next
-    }
+    let i = total_of(states::situation_of(stand, p, t));
+    let totals = task.totals;
+    let mut next = task;
+    next.totals[i] = totals[i] + (ticks as u32);
+    next
 }
 
 pub fn charge(state: State, ticks: u16) -> State
@@ -215,7 +209,11 @@ pub fn charge(state: State, ticks: u16) -> State
     for t in 0..SetUp::TASK_END {
         let i = t as usize;
         let task = next.tasks[i];
-        next.tasks[i] = charge_task(task, p, t, ticks);
+        let standing = task.standing;
+        let stand = states::stand_of(standing);
+        if stand != Task::ABSENT {
+            next.tasks[i] = charge_task(task, stand, p, t, ticks);
+        }
     }
     next.clock = state.clock + (ticks as u32);
     next

@@ -1,10 +1,10 @@
-// The refusals 10 to 25 of an event on a sound state.
+// The refusals 9 to 25 of an event.
 use crate::clock::clock_after;
 use crate::clock::step_to;
 use input::Event;
 use input::SetUp;
+use processors::Processors;
 use protocol::Situation;
-use protocol::State;
 use protocol::Task;
 ghost use mathlib.Core.Path.{_≡_};
 ghost use mathlib.Core.Bool.{true};
@@ -14,12 +14,11 @@ ghost use lib.ListN.{getD};
 ghost use Rattle.search.specs.Words.{_is_};
 ghost use Rattle.search.specs.Below.{anyBelow};
 ghost use Rattle.search.specs.Rows.{_when_, _otherwise_, firstOf};
-ghost use Rattle.setups.specs.Naming.{names};
 ghost use Rattle.protocol.specs.Words.{nobody};
 ghost use Rattle.protocol.specs.Situations.{hindrance};
-ghost use Rattle.protocol.specs.Sound.{sound};
 ghost use Rattle.protocol.specs.Refusals.{fieldRows, judge};
-ghost use Rattle.locking.specs.Steps.{isApart};
+ghost use Rattle.protocol.specs.declared.State.{State};
+ghost use Rattle.locking.specs.Steps.{isApart, HasParts};
 
 // The furthest step that goes forward, plus one; and the clock's end.
 const BACKWARD: u16 = 32768;
@@ -98,43 +97,44 @@ fn field_rows(tasks: usize, resources: usize, e: Event, later: u8) -> u8
     search::row(10, !known, r11)
 }
 
-// The first of 10 to 25 that applies, or 0; the state is sound, and `named` are its groups.
-pub fn judge_sound(state: State, named: [u8; SetUp::RESOURCES], e: Event) -> u8
-    requires { ⌜ (sound state ≡ true) × (named ≡ names (state .setup)) ⌝ }
-    ensures { λ r. ⌜ r ≡ judge state e ⌝ }
+// The first of 9 to 25 that applies, or 0, by what an event looks at in a state: the set-up, the clock, the record of the
+// event's task and the processors. `named` are the groups of the set-up, and `known` says whether the state is sound.
+pub fn judge_parts(
+    setup: SetUp,
+    clock: u32,
+    task: Task,
+    p: Processors,
+    named: [u8; SetUp::RESOURCES],
+    known: bool,
+    e: Event,
+) -> u8
+    ensures { λ r. ⌜ ((s : State) → HasParts s setup clock task p named known e → r ≡ judge s e) ⌝ }
 {
-    let setup = state.setup;
     let kinds = setup.kinds;
     let periods = setup.periods;
-    let tasks = state.tasks;
-    let p = state.processors;
-    let kind = e.kind;
-    let t = e.task;
-    let r = e.resource;
-    let task = tables::task_at(tasks, t);
     let standing = task.standing;
     let requests = task.requests;
     let depth = task.depth;
     let stand = states::stand_of(standing);
-    let hinders = hindrance_of(states::situation_of(stand, p, t));
-    let now = clock_after(state.clock, e.tick);
-    let due = (task.last as u64) + (tables::period_at(periods, t) as u64);
-    let comes = kind == Event::ARRIVAL;
-    let asks = kind == Event::REQUEST;
-    let acts = (Event::FINISH <= kind) & (kind <= Event::COMPLETION);
-    let not_newest = (depth == 0) | (newest(requests, depth) != r);
-    let r25 = search::row(25, (kind == Event::COMPLETION) & not_newest, 0);
+    let hinders = hindrance_of(states::situation_of(stand, p, e.task));
+    let now = clock_after(clock, e.tick);
+    let due = (task.last as u64) + (tables::period_at(periods, e.task) as u64);
+    let comes = e.kind == Event::ARRIVAL;
+    let asks = e.kind == Event::REQUEST;
+    let acts = (Event::FINISH <= e.kind) & (e.kind <= Event::COMPLETION);
+    let not_newest = (depth == 0) | (newest(requests, depth) != e.resource);
+    let r25 = search::row(25, (e.kind == Event::COMPLETION) & not_newest, 0);
     let r24 = search::row(24, asks & (depth == Task::REQUESTS), r25);
-    let misplaced = is_misplaced(kinds, named, requests, depth, r);
+    let misplaced = is_misplaced(kinds, named, requests, depth, e.resource);
     let r23 = search::row(23, asks & misplaced, r24);
-    let r22 = search::row(22, asks & is_open(requests, depth, r), r23);
-    let r21 = search::row(21, (kind == Event::FINISH) & (depth != 0), r22);
+    let r22 = search::row(22, asks & is_open(requests, depth, e.resource), r23);
+    let r21 = search::row(21, (e.kind == Event::FINISH) & (depth != 0), r22);
     let r20 = search::row(20, acts & (hinders == 20), r21);
     let r19 = search::row(19, acts & (hinders == 19), r20);
     let r18 = search::row(18, acts & (hinders == 18), r19);
     let r17 = search::row(17, comes & task.arrived & (now < due), r18);
     let r16 = search::row(16, comes & (stand != Task::ABSENT), r17);
     let r15 = search::row(15, LAST_CLOCK < now, r16);
-    let r14 = search::row(14, BACKWARD <= step_to(state.clock, e.tick), r15);
-    field_rows(setup.tasks, setup.resources, e, r14)
+    let r14 = search::row(14, BACKWARD <= step_to(clock, e.tick), r15);
+    search::row(9, !known, field_rows(setup.tasks, setup.resources, e, r14))
 }

@@ -1,15 +1,12 @@
 // The events of a whole part, with one sound test.
-use crate::sessions::step_sound;
-use input::Event;
+use crate::judging::judge_parts;
+use crate::sessions::after;
 use input::SetUp;
 use protocol::Reply;
 use protocol::State;
 ghost use mathlib.Core.Path.{_≡_};
 ghost use Prim.Native.Nat.{_+_, _≤_};
 ghost use lib.ListN.{length};
-ghost use Rattle.setups.specs.Naming.{names};
-ghost use Rattle.protocol.specs.Sound.{sound};
-ghost use Rattle.protocol.specs.Events.{step as stepRule};
 ghost use Rattle.states.specs.Writing.{lineSize, written};
 ghost use Rattle.locking.specs.Playing.{played};
 
@@ -24,18 +21,6 @@ fn put_line(out: &mut [u8], at: usize, line: [u8; Reply::LINE]) -> usize
     at + Reply::LINE
 }
 
-// A step of a state that is known to be sound, or known not to be.
-fn step_known(state: State, named: [u8; SetUp::RESOURCES], known: bool, e: Event) -> Reply
-    requires { ⌜ (sound state ≡ known) × (named ≡ names (state .setup)) ⌝ }
-    ensures { λ r. ⌜ r ≡ stepRule state e ⌝ }
-{
-    if known {
-        step_sound(state, named, e)
-    } else {
-        Reply { answer: 9, state }
-    }
-}
-
 // Plays as many events as `part` has and `out` has room for; the state after them.
 pub fn play(state: State, part: &[u8], out: &mut [u8]) -> State
     ensures { λ r. ⌜ (r, now (out .exit)) ≡ played state (now (part .entry)) (now (out .entry)) ⌝ }
@@ -46,13 +31,22 @@ pub fn play(state: State, part: &[u8], out: &mut [u8]) -> State
     let events = input::event_count(part);
     let room = out.len() / Reply::LINE;
     let count = if events < room { events } else { room };
+    let setup = state.setup;
     let mut at = 0;
     let mut now_state = state;
     for i in 0..count {
-        let reply = step_known(now_state, named, is_sound, input::event_at(part, i));
-        let next = reply.state;
+        let e = input::event_at(part, i);
+        let t = e.task as usize;
+        let task = if t < SetUp::TASKS {
+            now_state.tasks[t]
+        } else {
+            tables::no_task()
+        };
+        let before = now_state.processors;
+        let answer = judge_parts(setup, now_state.clock, task, before, named, is_sound, e);
+        let next = after(now_state, named, e, answer);
         let p = next.processors;
-        at = put_line(out, at, states::line_of(reply.answer, p));
+        at = put_line(out, at, states::line_of(answer, p));
         now_state = next;
     }
     now_state

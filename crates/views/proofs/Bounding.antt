@@ -8,16 +8,19 @@ use Rattle.search.proofs.Tests.{and-iff, allBelow-at}
 use Rattle.input.specs.Limits.{mostTasks, mostResources}
 use Rattle.protocol.specs.Words.{mostRequests, task}
 use Rattle.protocol.specs.declared.State.{State}
-use Rattle.views.specs.Bounds.{taskBounded, isBounded}
+use Rattle.views.specs.Bounds.{latest, taskBounded, isBounded}
 
 module _ (s : State) (h : isBounded s ≡ true) where
   pub resources-bounded : s .setup .resources ≤ mostResources
   unfolding isBounded
   resources-bounded = leb-true _ _ ((simp and-iff at h) .0 .0)
 
-  pub tasks-bounded : allBelow mostTasks (λ t. taskBounded (task s t)) ≡ true
+  tasks-bounded : allBelow mostTasks (λ t. taskBounded (task s t)) ≡ true
   unfolding isBounded
   tasks-bounded = (simp and-iff at h) .0 .1
+
+  pub deadline-bounded : (t : ℕ) → t < mostTasks → task s t .deadline ≤ latest
+  deadline-bounded t l = leb-true _ _ ((simp and-iff at (allBelow-at mostTasks (λ t. taskBounded (task s t)) tasks-bounded t l)) .0)
 
   pub depth-bounded : (t : ℕ) → t < mostTasks → task s t .depth ≤ mostRequests
   depth-bounded t l = leb-true _ _ ((simp and-iff at (allBelow-at mostTasks (λ t. taskBounded (task s t)) tasks-bounded t l)) .1)

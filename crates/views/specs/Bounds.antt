@@ -1,21 +1,18 @@
 -- Within which bounds the ranks of a state fit their type, and the view of jobs within them. A sound state is.
-use Prim.Native.Nat.{ℕ, _+_, _*_}
+use Prim.Native.Nat.{ℕ}
 use mathlib.Core.Bool.{Bool, _&&_}
 use mathlib.Core.List.{List}
 use lib.Dec.{leb, ltb}
 use lib.ListN.{getD, replicate}
 use Rattle.search.specs.Words.{if_then_else_, _is_}
 use Rattle.search.specs.Below.{allBelow, anyBelow}
-use Rattle.search.specs.First.{first}
 use Rattle.queue.specs.Limits.{capacity}
-use Rattle.queue.specs.Waiting.{waiter}
-use Rattle.queue.specs.declared.Queue.{Queue}
 use Rattle.processors.specs.Words.{noJob}
 use Rattle.processors.specs.declared.Job.{Job}
 use Rattle.processors.specs.declared.Jobs.{Jobs}
-use Rattle.input.specs.Limits.{mostTasks, mostResources, short, long}
-use Rattle.protocol.specs.Words.{mostRequests, nobody, noTask, noGroup, task, group}
-use Rattle.protocol.specs.Ranks.{leastOf, modeFor, jobs}
+use Rattle.input.specs.Limits.{mostTasks, mostResources, short}
+use Rattle.protocol.specs.Words.{mostRequests, nobody, task, group}
+use Rattle.protocol.specs.Ranks.{modeFor, jobs}
 use Rattle.protocol.specs.declared.Task.{Task}
 use Rattle.protocol.specs.declared.Group.{Group}
 use Rattle.protocol.specs.declared.State.{State}
@@ -41,21 +38,10 @@ unfoldable pub jobsWithin : State → Jobs
 jobsWithin s = if isBounded s then jobs (s .setup) s else noJobs
 
 -- ---- the same from the parts of a state
--- a task's own rank
-abbrev pub ownIn : List Task → ℕ → ℕ
-ownIn tasks t = getD tasks t noTask .deadline * 256 + t
-
 -- a task's own rank in a table of them; past the table, that of no task
 abbrev pub rankAt : List ℕ → ℕ → ℕ
 rankAt ranks t = if ltb t mostTasks then getD ranks t 0 else t
 
--- the long group that t holds, or the number past the last resource
-abbrev pub heldBy : List ℕ → List ℕ → ℕ → ℕ → ℕ
-heldBy kinds holders resources t = first (λ g. getD kinds g 0 is long && getD holders g nobody is t) 0 resources
-
--- the job of a task with its own rank, with those who wait for what it holds
-abbrev pub jobWith : List ℕ → List ℕ → Queue → Task → ℕ → Job
-jobWith kinds ranks queue x rank = record {
-  rank = leastOf (λ i. rankAt ranks (waiter queue i)) (queue .len) rank;
-  mode = modeFor (x .standing) (anyBelow (x .depth) (λ i. getD kinds (getD (x .requests) i nobody) 0 is short));
-}
+-- the job of a task with its effective rank
+abbrev pub jobWith : List ℕ → Task → ℕ → Job
+jobWith kinds x rank = record { rank = rank; mode = modeFor (x .standing) (anyBelow (x .depth) (λ i. getD kinds (getD (x .requests) i nobody) 0 is short)) }

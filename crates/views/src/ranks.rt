@@ -9,21 +9,19 @@ use protocol::Standing;
 use protocol::State;
 use protocol::Task;
 use queue::Queue;
-use tables::holders_of;
 use tables::kind_at;
-use tables::no_group;
 ghost use mathlib.Core.Path.{_≡_};
 ghost use mathlib.Core.Bool.{true};
 ghost use Prim.Native.Nat.{_+_, _*_, _≤_, min};
-ghost use lib.ListN.{getD};
-ghost use Rattle.search.specs.Words.{_is_};
+ghost use lib.ListN.{getD, set};
+ghost use Rattle.search.specs.Words.{if_then_else_, _is_};
 ghost use Rattle.search.specs.Below.{allBelow, anyBelow};
 ghost use Rattle.search.specs.Table.{table};
 ghost use Rattle.queue.specs.Waiting.{waiter};
-ghost use Rattle.input.specs.Limits.{mostTasks, mostResources, short};
+ghost use Rattle.input.specs.Limits.{mostTasks, mostResources, short, long};
 ghost use Rattle.protocol.specs.Words.{mostRequests, nobody, noTask, noGroup};
-ghost use Rattle.protocol.specs.Ranks.{leastOf, modeFor, jobs};
-ghost use Rattle.views.specs.Bounds.{latest, taskBounded, queueBounded, isBounded, noJobs, jobsWithin, ownIn, rankAt, heldBy, jobWith};
+ghost use Rattle.protocol.specs.Ranks.{own, leastOf, modeFor, longHeld};
+ghost use Rattle.views.specs.Bounds.{latest, taskBounded, queueBounded, isBounded, noJobs, jobsWithin, rankAt, jobWith};
 
 // No deadline of a sound state is past this.
 const LATEST: u64 = 1099511627776;
@@ -34,23 +32,23 @@ fn is_task_bounded(task: Task) -> bool
     (task.deadline <= LATEST) & (task.depth <= Task::REQUESTS)
 }
 
-fn are_tasks_bounded(tasks: [Task; SetUp::TASKS]) -> bool
-    ensures { λ r. ⌜ r ≡ allBelow mostTasks (λ t. taskBounded (getD tasks t noTask)) ⌝ }
+fn are_tasks_bounded(state: State) -> bool
+    ensures { λ r. ⌜ r ≡ allBelow mostTasks (λ t. taskBounded (getD (state .tasks) t noTask)) ⌝ }
 {
     let mut ok = true;
     for t in 0..SetUp::TASKS {
-        let task = tasks[t];
+        let task = state.tasks[t];
         ok = ok & is_task_bounded(task);
     }
     ok
 }
 
-fn are_queues_bounded(groups: [Group; SetUp::RESOURCES]) -> bool
-    ensures { λ r. ⌜ r ≡ allBelow mostResources (λ g. queueBounded (getD groups g noGroup)) ⌝ }
+fn are_queues_bounded(state: State) -> bool
+    ensures { λ r. ⌜ r ≡ allBelow mostResources (λ g. queueBounded (getD (state .groups) g noGroup)) ⌝ }
 {
     let mut ok = true;
     for g in 0..SetUp::RESOURCES {
-        let group = groups[g];
+        let group = state.groups[g];
         let queue = group.queue;
         ok = ok & (queue.len <= Queue::CAPACITY);
     }
@@ -61,9 +59,7 @@ fn is_bounded(state: State) -> bool
     ensures { λ r. ⌜ r ≡ isBounded state ⌝ }
 {
     let setup = state.setup;
-    let tasks = state.tasks;
-    let groups = state.groups;
-    (setup.resources <= SetUp::RESOURCES) & are_tasks_bounded(tasks) & are_queues_bounded(groups)
+    (setup.resources <= SetUp::RESOURCES) & are_tasks_bounded(state) & are_queues_bounded(state)
 }
 
 // A task's own rank: earlier deadline, then lower number.
@@ -74,13 +70,13 @@ fn own_rank(deadline: u64, t: usize) -> u64
     deadline * 256 + (t as u64)
 }
 
-fn own_ranks(tasks: [Task; SetUp::TASKS]) -> [u64; SetUp::TASKS]
-    requires { ⌜ allBelow mostTasks (λ t. taskBounded (getD tasks t noTask)) ≡ true ⌝ }
-    ensures { λ r. ⌜ r ≡ table (ownIn tasks) mostTasks ⌝ }
+fn own_ranks(state: State) -> [u64; SetUp::TASKS]
+    requires { ⌜ isBounded state ≡ true ⌝ }
+    ensures { λ r. ⌜ r ≡ table (own state) mostTasks ⌝ }
 {
     let mut ranks = [0u64; SetUp::TASKS];
     for t in 0..SetUp::TASKS {
-        let task = tasks[t];
+        let task = state.tasks[t];
         ranks[t] = own_rank(task.deadline, t);
     }
     ranks
@@ -111,22 +107,37 @@ fn least_waiting(ranks: [u64; SetUp::TASKS], queue: Queue, rank: u64) -> u64
     best
 }
 
-// The long group that `t` holds, or `resources`.
-fn long_held(
-    kinds: [u8; SetUp::RESOURCES],
-    holders: [u8; SetUp::RESOURCES],
-    resources: usize,
-    t: u8,
-) -> usize
-    requires { ⌜ resources ≤ mostResources ⌝ }
-    ensures { λ r. ⌜ r ≡ heldBy kinds holders resources t ⌝ }
+// The holder of a group of kind `kind` holds `g`, where that is long.
+fn with_held(held: [u8; SetUp::TASKS], kind: u8, holder: u8, g: u8) -> [u8; SetUp::TASKS]
+    ensures { λ r. ⌜ r ≡ (if kind is long then set held holder g else held) ⌝ }
 {
-    let mut found = resources;
+    let mut next = held;
+    let i = holder as usize;
+    if kind == SetUp::LONG {
+        if i < SetUp::TASKS {
+            next[i] = g;
+        }
+    }
+    next
+}
+
+// The long group that each task holds, or the number past the last resource; from the last resource to the first, so that
+// the lowest stays.
+fn held_of(state: State) -> [u8; SetUp::TASKS]
+    requires { ⌜ state .setup .resources ≤ mostResources ⌝ }
+    ensures { λ r. ⌜ r ≡ table (longHeld (state .setup) state) mostTasks ⌝ }
+{
+    let setup = state.setup;
+    let kinds = setup.kinds;
+    let resources = setup.resources;
+    let mut held = [resources as u8; SetUp::TASKS];
     for n in 0..resources {
         let g = resources - 1 - n;
-        found = search::pick((kinds[g] == SetUp::LONG) & (holders[g] == t), g, found);
+        let group = state.groups[g];
+        let next = with_held(held, kinds[g], group.holder, g as u8);
+        held = next;
     }
-    found
+    held
 }
 
 // A short request is open among the first `depth`.
@@ -159,49 +170,17 @@ fn mode_for(standing: Standing, holds: bool) -> Mode
     }
 }
 
-// The job of a task with its own rank, with those who wait for what it holds.
-fn job_with(
-    kinds: [u8; SetUp::RESOURCES],
-    ranks: [u64; SetUp::TASKS],
-    queue: Queue,
-    task: Task,
-    rank: u64,
-) -> Job
+// The job of a task with its effective rank.
+fn job_with(kinds: [u8; SetUp::RESOURCES], task: Task, rank: u64) -> Job
     requires { ⌜ task .depth ≤ mostRequests ⌝ }
-    ensures { λ r. ⌜ r ≡ jobWith kinds ranks queue task rank ⌝ }
+    ensures { λ r. ⌜ r ≡ jobWith kinds task rank ⌝ }
 {
     let requests = task.requests;
     let standing = task.standing;
     Job {
-        rank: least_waiting(ranks, queue, rank),
+        rank,
         mode: mode_for(standing, holds_short(kinds, requests, task.depth)),
     }
-}
-
-fn jobs_within(state: State) -> Jobs
-    requires { ⌜ isBounded state ≡ true ⌝ }
-    ensures { λ r. ⌜ r ≡ jobs (state .setup) state ⌝ }
-{
-    let setup = state.setup;
-    let kinds = setup.kinds;
-    let resources = setup.resources;
-    let tasks = state.tasks;
-    let groups = state.groups;
-    let ranks = own_ranks(tasks);
-    let holders = holders_of(groups);
-    let mut all = no_jobs();
-    for t in 0..SetUp::TASKS {
-        let g = long_held(kinds, holders, resources, t as u8);
-        let group = if g < SetUp::RESOURCES {
-            groups[g]
-        } else {
-            no_group()
-        };
-        let queue = group.queue;
-        let task = tasks[t];
-        all.of[t] = job_with(kinds, ranks, queue, task, ranks[t]);
-    }
-    all
 }
 
 fn no_jobs() -> Jobs
@@ -219,9 +198,24 @@ fn no_jobs() -> Jobs
 pub fn jobs_of(state: State) -> Jobs
     ensures { λ r. ⌜ r ≡ jobsWithin state ⌝ }
 {
+    let mut all = no_jobs();
     if is_bounded(state) {
-        jobs_within(state)
-    } else {
-        no_jobs()
+        let setup = state.setup;
+        let kinds = setup.kinds;
+        let ranks = own_ranks(state);
+        let held = held_of(state);
+        for t in 0..SetUp::TASKS {
+            let g = held[t] as usize;
+            let rank = if g < SetUp::RESOURCES {
+                let group = state.groups[g];
+                let queue = group.queue;
+                least_waiting(ranks, queue, ranks[t])
+            } else {
+                ranks[t]
+            };
+            let task = state.tasks[t];
+            all.of[t] = job_with(kinds, task, rank);
+        }
     }
+    all
 }

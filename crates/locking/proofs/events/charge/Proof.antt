@@ -1,9 +1,10 @@
 -- The loop's invariant: the tasks passed are charged. Assumes nothing.
+use borrow.Author.Needs.{needs}
 use Prim.Native.Nat.{_≤_, _<_, _-_}
-use mathlib.Core.Path.{_≡_, refl}
+use mathlib.Core.Path.{_≡_, refl, sym, _∙_}
+use mathlib.Core.Logic.{⊎-elim}
 use native.Mathlib.Omega.{arith}
 use lib.ListN.{length, length-map}
-use borrow.Author.Needs.{needs}
 use Rattle.search.specs.Table.{table}
 use Rattle.search.proofs.Tables.{table-turn, table-all}
 use Rattle.input.specs.Limits.{mostTasks}
@@ -11,7 +12,7 @@ use Rattle.protocol.specs.Events.{charged}
 use Rattle.protocol.specs.Words.{stand}
 use Rattle.protocol.specs.Situations.{situation}
 use Rattle.tables.proofs.Reading.{task-read}
-use Rattle.locking.proofs.Charging.{rest-at, chargedAt, chargedTo}
+use Rattle.locking.proofs.Charging.{rest-at, chargedAt, chargedTo, charged-none}
 use Rattle.locking.proofs.events.charge.Statement.{statement}
 use Rattle.locking.proofs.events.charge.Tie as tie
 
@@ -34,17 +35,20 @@ mul-task c = search needs
 element-copy-out-task : tie.Need-element-copy-out-task Inv-loop μ-loop
 element-copy-out-task c = search needs
 
+stand-of-requires : tie.Need-stand-of-requires Inv-loop μ-loop
+stand-of-requires c κs = search needs
+
 charge-task-requires : tie.Need-charge-task-requires Inv-loop μ-loop
 charge-task-requires c κs =
-    let start = c .before .before .before .before in
-    let loop = c .before .before .loop in
+    let start = c .before .before .before .before .before .before in
     let s = start .args .state in
     let tasked : length (s .tasks) ≡ mostTasks = simp length-map at (start .good .0 .1 .1 .1 .1 .0 .1 .0 .1) in
-    let l : loop .t < length (s .tasks) = omega arith in
-    rw (loop .inv .1, rest-at, task-read (s .tasks) (loop .t) l) (omega (arith, start .pre .1 (loop .t) (omega arith)))
+    let o = c .before .before .before .before .loop in
+    let l : o .t < length (s .tasks) = omega arith in
+    (c .before .stand-of .ensures, c .if1 .taken, rw (o .inv .1, rest-at, task-read (s .tasks) (o .t) l) (omega (arith, start .pre .1 (o .t) (omega arith))))
 
-mul-t9 : tie.Need-mul-t9 Inv-loop μ-loop
-mul-t9 c = search needs
+mul-t16 : tie.Need-mul-t16 Inv-loop μ-loop
+mul-t16 c = search needs
 
 element-set-from-next : tie.Need-element-set-from-next Inv-loop μ-loop
 element-set-from-next c = search needs
@@ -57,12 +61,19 @@ loop-less c = search needs
 
 loop-again : tie.Need-loop-again Inv-loop μ-loop
 loop-again c =
-    let start = c .before .before .before .before .before in
+    let start = c .before .before .before .before .before .before in
     let s = start .args .state in
     let tasked : length (s .tasks) ≡ mostTasks = simp length-map at (start .good .0 .1 .1 .1 .1 .0 .1 .0 .1) in
-    let a = c .before .before .before .loop in
-    let l : a .t < length (s .tasks) = omega arith in
-    (search needs, rw (c .charge-task .ensures, a .inv .1, rest-at, task-read (s .tasks) (a .t) l, table-turn (chargedAt (s .processors) (start .args .ticks) s) (s .tasks) (a .t) l))
+    let o = c .before .before .before .before .loop in
+    let l : o .t < length (s .tasks) = omega arith in
+    let n = start .args .ticks in
+    let stood = rw (o .inv .1, rest-at, task-read (s .tasks) (o .t) l) at (c .before .stand-of .ensures) in (
+      search needs,
+      ⊎-elim
+          (λ w. w .2 ∙ rw (w .1 .ensures, o .inv .1, rest-at, task-read (s .tasks) (o .t) l, table-turn (chargedAt (s .processors) n s) (s .tasks) (o .t) l))
+          (λ w. w .1 ∙ o .inv .1 ∙ charged-none (s .processors) n s (o .t) l (sym stood ∙ w .0 .left))
+          (c .if1 .came),
+    )
 
 add-next : tie.Need-add-next Inv-loop μ-loop
 add-next c = search needs
@@ -71,11 +82,11 @@ returns : tie.Need-returns Inv-loop μ-loop
 unfolding charged stand situation
 returns c =
     let start = c .before .before .before .before in
-    let loop = c .before .before .loop in
     let s = start .args .state in
     let tasked : length (s .tasks) ≡ mostTasks = simp length-map at (start .good .0 .1 .1 .1 .1 .0 .1 .0 .1) in
-    let e : loop .t ≡ mostTasks = omega arith in
-    rw (loop .inv .1, e, table-all (chargedAt (s .processors) (start .args .ticks) s) (s .tasks) mostTasks tasked)
+    let o = c .before .before .loop in
+    let e : o .t ≡ mostTasks = omega arith in
+    rw (o .inv .1, e, table-all (chargedAt (s .processors) (start .args .ticks) s) (s .tasks) mostTasks tasked)
 
 pub charge-spec : {M : Type 1} → statement M
 charge-spec =
@@ -87,8 +98,9 @@ charge-spec =
     cast-i
     mul-task
     element-copy-out-task
+    stand-of-requires
     charge-task-requires
-    mul-t9
+    mul-t16
     element-set-from-next
     add-t
     loop-less

@@ -1,20 +1,21 @@
-use mathlib.Core.Path.{sym}
 use borrow.Author.Needs.{needs}
-use Rattle.locking.proofs.Accepted.{unsound-stepped}
+use mathlib.Core.Path.{ap}
+use Rattle.soundness.specs.declared.Tested.{Tested}
+use Rattle.locking.proofs.Accepted.{step-answer}
 use Rattle.locking.proofs.sessions.step.Statement.{statement}
 use Rattle.locking.proofs.sessions.step.Tie as tie
 
 test-requires : tie.Need-test-requires
 test-requires c κs = search needs
 
-step-sound-requires : tie.Need-step-sound-requires
-step-sound-requires c κs = (rw (c .before .before .test .ensures) at (c .before .if1 .taken), rw (c .before .before .test .ensures))
+judge-tested-requires : tie.Need-judge-tested-requires
+judge-tested-requires c κs = (ap (λ (x : Tested). x .passes) (c .before .test .ensures), ap (λ (x : Tested). x .named) (c .before .test .ensures))
+
+after-requires : tie.Need-after-requires
+after-requires c κs = (c .judge-tested .ensures, ap (λ (x : Tested). x .named) (c .before .before .test .ensures))
 
 returns : tie.Need-returns
-returns c = search needs
-
-returns-2 : tie.Need-returns-2
-returns-2 c = sym (unsound-stepped _ _ (cc))
+returns c = rw (c .before .judge-tested .ensures, c .after .ensures, ← (step-answer (c .before .before .before .before .args .state) (c .before .before .before .before .args .e)))
 
 pub step-spec : {M : Type 1} → statement M
-step-spec = tie.close (tie.spec test-requires step-sound-requires returns returns-2)
+step-spec = tie.close (tie.spec test-requires judge-tested-requires after-requires returns)

@@ -3,21 +3,21 @@ use Prim.Native.Nat.{_≤_, _-_}
 use mathlib.Core.Path.{_≡_}
 use native.Mathlib.Omega.{arith}
 use native.Mathlib.Numerals.{add-one}
-use lib.ListN.{getD}
+use lib.ListN.{length, getD, length-map}
 use borrow.Author.Needs.{needs}
 use Rattle.search.specs.Below.{allBelow}
 use Rattle.input.specs.Limits.{mostResources}
 use Rattle.protocol.specs.Words.{noGroup}
-use Rattle.views.specs.Bounds.{queueBounded}
 use Rattle.tables.proofs.Reading.{group-read}
+use Rattle.views.specs.Bounds.{queueBounded}
 use Rattle.views.proofs.ranks.are_queues_bounded.Statement.{statement}
 use Rattle.views.proofs.ranks.are_queues_bounded.Tie as tie
 
 abbrev Inv-loop : tie.InvT-loop
-Inv-loop groups ok₀ g₀ ok g = (g ≤ mostResources) × (ok ≡ allBelow g (λ g. queueBounded (getD groups g noGroup)))
+Inv-loop state ok₀ g₀ ok g = (g ≤ mostResources) × (ok ≡ allBelow g (λ g. queueBounded (getD (state .groups) g noGroup)))
 
 abbrev μ-loop : tie.MeasureT-loop
-μ-loop groups ok₀ g₀ ok g = mostResources - g
+μ-loop state ok₀ g₀ ok g = mostResources - g
 
 loop-holds : tie.Need-loop-holds Inv-loop μ-loop
 unfolding allBelow
@@ -26,8 +26,8 @@ loop-holds c = search needs
 mul-group : tie.Need-mul-group Inv-loop μ-loop
 mul-group c = search needs
 
-array-copy-out-group : tie.Need-array-copy-out-group Inv-loop μ-loop
-array-copy-out-group c = search needs
+element-copy-out-group : tie.Need-element-copy-out-group Inv-loop μ-loop
+element-copy-out-group c = search needs
 
 add-g : tie.Need-add-g Inv-loop μ-loop
 add-g c = search needs
@@ -38,8 +38,11 @@ loop-less c = search needs
 loop-again : tie.Need-loop-again Inv-loop μ-loop
 unfolding allBelow
 loop-again c =
+    let start = c .before .before .before .before .before in
+    let s = start .args .t1 in
     let a = c .before .before .before .before .loop in
-    (search needs, rw (add-one, a .inv .1, group-read (c .before .before .before .before .before .args .t1) (a .g) (search needs)))
+    let grouped : length (s .groups) ≡ mostResources = simp length-map at (start .good .0 .1 .1 .1 .1 .1 .0 .1 .0 .1) in
+    (search needs, rw (add-one, a .inv .1, group-read (s .groups) (a .g) (omega arith)))
 
 returns : tie.Need-returns Inv-loop μ-loop
 returns c =
@@ -54,7 +57,7 @@ are-queues-bounded-spec =
     μ-loop
     loop-holds
     mul-group
-    array-copy-out-group
+    element-copy-out-group
     add-g
     loop-less
     loop-again

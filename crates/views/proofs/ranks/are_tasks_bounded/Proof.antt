@@ -3,21 +3,21 @@ use Prim.Native.Nat.{_≤_, _-_}
 use mathlib.Core.Path.{_≡_}
 use native.Mathlib.Omega.{arith}
 use native.Mathlib.Numerals.{add-one}
-use lib.ListN.{getD}
+use lib.ListN.{length, getD, length-map}
 use borrow.Author.Needs.{needs}
 use Rattle.search.specs.Below.{allBelow}
 use Rattle.input.specs.Limits.{mostTasks}
 use Rattle.protocol.specs.Words.{noTask}
-use Rattle.views.specs.Bounds.{taskBounded}
 use Rattle.tables.proofs.Reading.{task-read}
+use Rattle.views.specs.Bounds.{taskBounded}
 use Rattle.views.proofs.ranks.are_tasks_bounded.Statement.{statement}
 use Rattle.views.proofs.ranks.are_tasks_bounded.Tie as tie
 
 abbrev Inv-loop : tie.InvT-loop
-Inv-loop tasks ok₀ t₀ ok t = (t ≤ mostTasks) × (ok ≡ allBelow t (λ t. taskBounded (getD tasks t noTask)))
+Inv-loop state ok₀ t₀ ok t = (t ≤ mostTasks) × (ok ≡ allBelow t (λ t. taskBounded (getD (state .tasks) t noTask)))
 
 abbrev μ-loop : tie.MeasureT-loop
-μ-loop tasks ok₀ t₀ ok t = mostTasks - t
+μ-loop state ok₀ t₀ ok t = mostTasks - t
 
 loop-holds : tie.Need-loop-holds Inv-loop μ-loop
 unfolding allBelow
@@ -26,8 +26,8 @@ loop-holds c = search needs
 mul-task : tie.Need-mul-task Inv-loop μ-loop
 mul-task c = search needs
 
-array-copy-out-task : tie.Need-array-copy-out-task Inv-loop μ-loop
-array-copy-out-task c = search needs
+element-copy-out-task : tie.Need-element-copy-out-task Inv-loop μ-loop
+element-copy-out-task c = search needs
 
 is-task-bounded-requires : tie.Need-is-task-bounded-requires Inv-loop μ-loop
 is-task-bounded-requires c κs = search needs
@@ -41,8 +41,11 @@ loop-less c = search needs
 loop-again : tie.Need-loop-again Inv-loop μ-loop
 unfolding allBelow
 loop-again c =
+    let start = c .before .before .before .before in
+    let s = start .args .t1 in
     let a = c .before .before .before .loop in
-    (search needs, rw (add-one, a .inv .1, c .is-task-bounded .ensures, task-read (c .before .before .before .before .args .t1) (a .t) (search needs)))
+    let tasked : length (s .tasks) ≡ mostTasks = simp length-map at (start .good .0 .1 .1 .1 .1 .0 .1 .0 .1) in
+    (search needs, rw (add-one, a .inv .1, c .is-task-bounded .ensures, task-read (s .tasks) (a .t) (omega arith)))
 
 returns : tie.Need-returns Inv-loop μ-loop
 returns c =
@@ -57,7 +60,7 @@ are-tasks-bounded-spec =
     μ-loop
     loop-holds
     mul-task
-    array-copy-out-task
+    element-copy-out-task
     is-task-bounded-requires
     add-t
     loop-less

@@ -2,9 +2,6 @@ use borrow.Author.Needs.{needs}
 use Rattle.views.proofs.ranks.job_with.Statement.{statement}
 use Rattle.views.proofs.ranks.job_with.Tie as tie
 
-least-waiting-requires : tie.Need-least-waiting-requires
-least-waiting-requires c κs = search needs
-
 holds-short-requires : tie.Need-holds-short-requires
 holds-short-requires c κs = search needs
 
@@ -12,8 +9,8 @@ mode-for-requires : tie.Need-mode-for-requires
 mode-for-requires c κs = search needs
 
 returns : tie.Need-returns
-returns c = rw (c .before .before .least-waiting .ensures, c .mode-for .ensures, c .before .holds-short .ensures)
+returns c = rw (c .mode-for .ensures, c .before .holds-short .ensures)
 
 pub job-with-spec : {M : Type 1} → statement M
 job-with-spec =
-    tie.close (tie.spec least-waiting-requires holds-short-requires mode-for-requires returns)
+    tie.close (tie.spec holds-short-requires mode-for-requires returns)

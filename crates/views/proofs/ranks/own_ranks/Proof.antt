@@ -3,39 +3,41 @@ use Prim.Native.Nat.{_≤_, _-_}
 use mathlib.Core.Path.{_≡_, refl}
 use mathlib.Core.List.{_++_}
 use native.Mathlib.Omega.{arith}
-use lib.ListN.{getD, drop, replicate}
+use lib.ListN.{length, drop, replicate, length-map}
 use borrow.Author.Needs.{needs}
 use Rattle.search.specs.Table.{table}
 use Rattle.search.proofs.Tables.{table-none, table-turn, table-all}
-use Rattle.search.proofs.Tests.{tests, allBelow-at}
 use Rattle.input.specs.Limits.{mostTasks}
-use Rattle.protocol.specs.Words.{noTask}
-use Rattle.views.specs.Bounds.{taskBounded, ownIn}
+use Rattle.protocol.specs.Words.{deadline}
+use Rattle.protocol.specs.Ranks.{own}
 use Rattle.tables.proofs.Reading.{task-read}
+use Rattle.views.proofs.Bounding.{deadline-bounded}
 use Rattle.views.proofs.ranks.own_ranks.Statement.{statement}
 use Rattle.views.proofs.ranks.own_ranks.Tie as tie
 
 abbrev Inv-loop : tie.InvT-loop
-Inv-loop tasks ranks₀ t₀ ranks t = (t ≤ mostTasks) × (ranks ≡ table (ownIn tasks) t ++ drop t ranks₀)
+Inv-loop state ranks₀ t₀ ranks t = (t ≤ mostTasks) × (ranks ≡ table (own state) t ++ drop t ranks₀)
 
 abbrev μ-loop : tie.MeasureT-loop
-μ-loop tasks ranks₀ t₀ ranks t = mostTasks - t
+μ-loop state ranks₀ t₀ ranks t = mostTasks - t
 
 loop-holds : tie.Need-loop-holds Inv-loop μ-loop
-loop-holds c = (search needs, table-none (ownIn (c .args .t1)) _)
+loop-holds c = (search needs, table-none (own (c .args .t1)) _)
 
 mul-task : tie.Need-mul-task Inv-loop μ-loop
 mul-task c = search needs
 
-array-copy-out-task : tie.Need-array-copy-out-task Inv-loop μ-loop
-array-copy-out-task c = search needs
+element-copy-out-task : tie.Need-element-copy-out-task Inv-loop μ-loop
+element-copy-out-task c = search needs
 
 own-rank-requires : tie.Need-own-rank-requires Inv-loop μ-loop
 own-rank-requires c κs =
-    let tasks = c .before .before .before .args .t1 in
+    let start = c .before .before .before in
+    let s = start .args .t1 in
     let t = c .before .before .loop .t in
-    let h = simp tests at (allBelow-at mostTasks (λ t. taskBounded (getD tasks t noTask)) (c .before .before .before .pre) t (omega arith)) in
-    rw (task-read tasks t (search needs)) (omega arith)
+    let tasked : length (s .tasks) ≡ mostTasks = simp length-map at (start .good .0 .1 .1 .1 .1 .0 .1 .0 .1) in
+    let due = deadline-bounded s (start .pre) t (omega arith) in
+    rw (task-read (s .tasks) t (omega arith)) (omega arith)
 
 mul-ranks : tie.Need-mul-ranks Inv-loop μ-loop
 mul-ranks c = search needs
@@ -50,17 +52,20 @@ loop-less : tie.Need-loop-less Inv-loop μ-loop
 loop-less c = search needs
 
 loop-again : tie.Need-loop-again Inv-loop μ-loop
+unfolding own deadline
 loop-again c =
-    let tasks = c .before .before .before .before .args .t1 in
-    let a = c .before .before .before .loop in (
+    let start = c .before .before .before .before in
+    let s = start .args .t1 in
+    let a = c .before .before .before .loop in
+    let tasked : length (s .tasks) ≡ mostTasks = simp length-map at (start .good .0 .1 .1 .1 .1 .0 .1 .0 .1) in (
       search needs,
-      rw (a .inv .1, c .own-rank .ensures, task-read tasks (a .t) (search needs)) (table-turn (ownIn tasks) (replicate mostTasks 0) (a .t) (search needs)),
+      rw (a .inv .1, c .own-rank .ensures, task-read (s .tasks) (a .t) (omega arith)) (table-turn (own s) (replicate mostTasks 0) (a .t) (omega arith)),
     )
 
 returns : tie.Need-returns Inv-loop μ-loop
 returns c =
     let e : c .before .loop .t ≡ mostTasks = omega arith in
-    rw (c .before .loop .inv .1, e) (table-all (ownIn (c .before .before .args .t1)) (replicate mostTasks 0) mostTasks refl)
+    rw (c .before .loop .inv .1, e) (table-all (own (c .before .before .args .t1)) (replicate mostTasks 0) mostTasks refl)
 
 pub own-ranks-spec : {M : Type 1} → statement M
 own-ranks-spec =
@@ -70,7 +75,7 @@ own-ranks-spec =
     μ-loop
     loop-holds
     mul-task
-    array-copy-out-task
+    element-copy-out-task
     own-rank-requires
     mul-ranks
     array-write-ranks

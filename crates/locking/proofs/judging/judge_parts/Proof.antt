@@ -1,43 +1,42 @@
--- The rows of the code are those of the rule, whose first is not given on a sound state. Assumes nothing.
+-- The rows of the code are those of the rule. Assumes nothing.
+use borrow.Author.Needs.{needs}
 use Prim.Native.Nat.{ℕ, _+_, _-_}
 use mathlib.Core.Path.{_≡_}
-use mathlib.Core.Bool.{Bool, true, _&&_, _||_}
+use mathlib.Core.Bool.{Bool, true, not, _&&_, _||_}
 use mathlib.Core.List.{List, [], _++_}
 use lib.Dec.{leb, ltb}
 use lib.ListN.{getD}
-use borrow.Author.Needs.{needs}
 use Rattle.search.specs.Words.{if_then_else_, _is_, _isn't_}
 use Rattle.search.specs.Below.{anyBelow}
 use Rattle.search.specs.Rows.{_when_, _otherwise_, firstOf}
+use Rattle.processors.specs.declared.Processors.{Processors}
 use Rattle.input.specs.Words.{period}
 use Rattle.input.specs.Words.{within}
-use Rattle.setups.specs.Naming.{names, groupOf}
+use Rattle.setups.specs.Naming.{groupOf}
 use Rattle.input.specs.Kinds.{arrival, finish, request as asking, completion}
+use Rattle.input.specs.declared.SetUp.{SetUp}
 use Rattle.input.specs.declared.Event.{Event}
-use Rattle.protocol.specs.Words.{mostRequests, nobody, lastClock, absent, standingNo, task, stand, depth, request}
+use Rattle.protocol.specs.Words.{mostRequests, nobody, lastClock, absent, standingNo, stand, depth, request}
 use Rattle.protocol.specs.Situations.{situationOf, situation, hindrance}
-use Rattle.protocol.specs.Sound.{sound}
 use Rattle.protocol.specs.Refusals.{ticksTo, misplaced, fieldRows, eventRows, judge}
 use Rattle.protocol.specs.declared.Task.{Task}
 use Rattle.protocol.specs.declared.Situation.{Situation}
 use Rattle.protocol.specs.declared.State.{State}
-use Rattle.locking.specs.Steps.{isApart}
-use Rattle.locking.proofs.judging.judge_sound.Statement.{statement}
-use Rattle.locking.proofs.judging.judge_sound.Tie as tie
+use Rattle.locking.specs.Steps.{isApart, HasParts}
+use Rattle.locking.proofs.judging.judge_parts.Statement.{statement}
+use Rattle.locking.proofs.judging.judge_parts.Tie as tie
 
 -- the rule from what the code reads and computes, line by line
-judged : (s : State) (named : List ℕ) (e : Event) {k : Task} {x : Situation} {st hinders now per new step r25 r24 r23 r22 r21 r20 r19 r18 r17 r16 r15 r14 r : ℕ} {mis seen : Bool}
-    → (sound s ≡ true) × (named ≡ names (s .setup))
-    → k ≡ task s (e .task)
+judged : (s : State) (e : Event) {c : SetUp} {clock : ℕ} {k : Task} {p : Processors} {named : List ℕ} {known : Bool} {x : Situation} {st hinders now per new step r25 r24 r23 r22 r21 r20 r19 r18 r17 r16 r15 r14 r10 r : ℕ} {mis seen : Bool}
     → st ≡ standingNo (k .standing)
-    → x ≡ situationOf st (s .processors) (e .task)
+    → x ≡ situationOf st p (e .task)
     → hinders ≡ hindrance x
-    → now ≡ s .clock + ticksTo (s .clock) (e .tick)
-    → per ≡ period (s .setup) (e .task)
+    → now ≡ clock + ticksTo clock (e .tick)
+    → per ≡ period c (e .task)
     → new ≡ getD (k .requests) (k .depth - 1) nobody
     → r25 ≡ (if e .kind is completion && (k .depth is 0 || new isn't e .resource) then 25 else 0)
     → r24 ≡ (if e .kind is asking && k .depth is mostRequests then 24 else r25)
-    → mis ≡ anyBelow (k .depth) (λ i. isApart (s .setup .kinds) named (e .resource) (getD (k .requests) i nobody))
+    → mis ≡ anyBelow (k .depth) (λ i. isApart (c .kinds) named (e .resource) (getD (k .requests) i nobody))
     → r23 ≡ (if e .kind is asking && mis then 23 else r24)
     → seen ≡ anyBelow (k .depth) (λ i. getD (k .requests) i nobody is e .resource)
     → r22 ≡ (if e .kind is asking && seen then 22 else r23)
@@ -48,16 +47,15 @@ judged : (s : State) (named : List ℕ) (e : Event) {k : Task} {x : Situation} {
     → r17 ≡ (if e .kind is arrival && k .arrived && ltb now (k .last + per) then 17 else r18)
     → r16 ≡ (if e .kind is arrival && st isn't absent then 16 else r17)
     → r15 ≡ (if ltb lastClock now then 15 else r16)
-    → step ≡ ticksTo (s .clock) (e .tick)
+    → step ≡ ticksTo clock (e .tick)
     → r14 ≡ (if leb 32768 step then 14 else r15)
-    → r ≡ firstOf (fieldRows (s .setup .tasks) (s .setup .resources) e ++ (r14 when true otherwise []))
+    → r10 ≡ firstOf (fieldRows (c .tasks) (c .resources) e ++ (r14 when true otherwise []))
+    → r ≡ (if not known then 9 else r10)
+    → HasParts s c clock k p named known e
     → r ≡ judge s e
 unfolding judge eventRows stand depth request situation misplaced groupOf
-judged s named e pre k st x hin now per new r25 r24 mis r23 seen r22 r21 r20 r19 r18 r17 r16 r15 step r14 r =
-    rw (r, r14, r15, r16, r17, r18, r19, r20, r21, r22, r23, r24, r25, step, seen, mis, new, per, now, hin, x, st, k, pre .0, pre .1)
-
-task-at-requires : tie.Need-task-at-requires
-task-at-requires c κs = search needs
+judged s e st x hin now per new r25 r24 mis r23 seen r22 r21 r20 r19 r18 r17 r16 r15 step r14 r10 r has =
+    rw (r, r10, r14, r15, r16, r17, r18, r19, r20, r21, r22, r23, r24, r25, step, seen, mis, new, per, now, hin, x, st, has .recorded, has .naming, has .tested, has .timed, has .placed, has .given)
 
 stand-of-requires : tie.Need-stand-of-requires
 stand-of-requires c κs = search needs
@@ -134,23 +132,22 @@ row-requires-12 c κs = search needs
 field-rows-requires : tie.Need-field-rows-requires
 field-rows-requires c κs = search needs
 
+row-requires-13 : tie.Need-row-requires-13
+row-requires-13 c κs = search needs
+
 returns : tie.Need-returns
 returns c =
-    let later = c .before .before .before .before .before .before .before .before .before .before .before in
-    let tests = later .before .before .before .before .before .before in
-    let read = tests .before .before .before .before .before .before .before .before in
-    let start = read .before .before .before .before .before .before in
+    let later = c .before .before .before .before .before .before .before .before .before .before .before .before .before in
+    let tests = later .before .before .before .before .before .before .before .before in
+    λ s has.
     judged
-    (start .args .state)
-    (start .args .named)
-    (start .args .e)
-    (start .pre)
-    (read .task-at .ensures)
-    (tests .before .before .before .before .before .before .stand-of .ensures)
-    (tests .before .before .before .before .before .situation-of .ensures)
-    (tests .before .before .before .before .hindrance-of .ensures)
-    (tests .before .before .before .clock-after .ensures)
-    (tests .before .period-at .ensures)
+    s
+    (tests .before .before .before .before .before .before .before .before .before .before .before .before .before .before .args .e)
+    (tests .before .before .before .before .before .before .before .before .before .before .stand-of .ensures)
+    (tests .before .before .before .before .before .before .before .before .before .situation-of .ensures)
+    (tests .before .before .before .before .before .before .before .before .hindrance-of .ensures)
+    (tests .before .before .before .before .before .before .before .clock-after .ensures)
+    (tests .before .before .before .before .before .period-at .ensures)
     (tests .newest .ensures)
     (later .before .before .before .before .before .row .ensures)
     (later .before .before .before .before .row2 .ensures)
@@ -158,22 +155,23 @@ returns c =
     (later .before .before .row3 .ensures)
     (later .before .is-open .ensures)
     (later .row4 .ensures)
-    (c .before .before .before .before .before .before .before .before .before .before .row5 .ensures)
-    (c .before .before .before .before .before .before .before .before .before .row6 .ensures)
-    (c .before .before .before .before .before .before .before .before .row7 .ensures)
-    (c .before .before .before .before .before .before .before .row8 .ensures)
-    (c .before .before .before .before .before .row9 .ensures)
-    (c .before .before .before .before .row10 .ensures)
-    (c .before .before .before .row11 .ensures)
-    (c .before .before .step-to .ensures)
-    (c .before .row12 .ensures)
-    (c .field-rows .ensures)
+    (c .before .before .before .before .before .before .before .before .before .before .before .row5 .ensures)
+    (c .before .before .before .before .before .before .before .before .before .before .row6 .ensures)
+    (c .before .before .before .before .before .before .before .before .before .row7 .ensures)
+    (c .before .before .before .before .before .before .before .before .row8 .ensures)
+    (c .before .before .before .before .before .before .row9 .ensures)
+    (c .before .before .before .before .before .row10 .ensures)
+    (c .before .before .before .before .row11 .ensures)
+    (c .before .before .before .step-to .ensures)
+    (c .before .before .row12 .ensures)
+    (c .before .field-rows .ensures)
+    (c .row13 .ensures)
+    has
 
-pub judge-sound-spec : {M : Type 1} → statement M
-judge-sound-spec =
+pub judge-parts-spec : {M : Type 1} → statement M
+judge-parts-spec =
     tie.close
     (tie.spec
-    task-at-requires
     stand-of-requires
     situation-of-requires
     hindrance-of-requires
@@ -199,4 +197,5 @@ judge-sound-spec =
     step-to-requires
     row-requires-12
     field-rows-requires
+    row-requires-13
     returns)
