@@ -1,10 +1,10 @@
 -- Parts of the rules, over what the code has at hand.
 use Prim.Native.Nat.{ℕ}
+use mathlib.Core.Path.{_≡_}
 use mathlib.Core.Bool.{Bool, _&&_, _||_}
 use mathlib.Core.List.{List}
 use lib.ListN.{getD}
 use Rattle.search.specs.Words.{_is_, _isn't_}
-use mathlib.Core.Path.{_≡_}
 use Rattle.processors.specs.declared.Processors.{Processors}
 use Rattle.input.specs.Limits.{short, long}
 use Rattle.input.specs.declared.SetUp.{SetUp}

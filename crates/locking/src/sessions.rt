@@ -13,7 +13,7 @@ ghost use Rattle.protocol.specs.Sound.{sound};
 ghost use Rattle.protocol.specs.Refusals.{judge as judgeRule};
 ghost use Rattle.protocol.specs.Events.{step as stepRule};
 
-// The first of 9 to 25 that applies, or 0. `named` are the groups of the state's set-up, and `known` its sound test.
+// The first of 9 to 25 that applies, or 0, of a state whose groups are `named` and whose sound test gave `known`.
 fn judge_tested(state: State, named: [u8; SetUp::RESOURCES], known: bool, e: Event) -> u8
     requires { ⌜ (known ≡ sound state) × (named ≡ names (state .setup)) ⌝ }
     ensures { λ r. ⌜ r ≡ judgeRule state e ⌝ }
@@ -25,6 +25,7 @@ fn judge_tested(state: State, named: [u8; SetUp::RESOURCES], known: bool, e: Eve
     judge_parts(setup, state.clock, task, p, named, known, e)
 }
 
+// The first of 9 to 25 that applies, or 0.
 pub fn judge(state: State, e: Event) -> u8
     ensures { λ r. ⌜ r ≡ judgeRule state e ⌝ }
 {

@@ -3,7 +3,6 @@ use input::SetUp;
 use processors::Job;
 use processors::Jobs;
 use processors::Mode;
-use protocol::Group;
 use protocol::Lock;
 use protocol::Standing;
 use protocol::State;
