@@ -15,16 +15,17 @@ use Rattle.queue.specs.Waiting.{waiter as queued, appended, withoutFirst}
 use Rattle.queue.specs.declared.Queue.{Queue}
 use Rattle.queue.proofs.Laws.{append-len, without-len}
 use Rattle.processors.specs.declared.Processors.{Processors}
+use Rattle.scheduler.specs.Leaving.{leaving}
 use Rattle.input.specs.Limits.{mostTasks, mostResources}
 use Rattle.input.specs.declared.SetUp.{SetUp}
 use Rattle.protocol.specs.Words.{mostRequests, nobody, noTask, task, group, asked, depth, len, waiter}
 use Rattle.protocol.specs.Locks.{standingAs, opening, closing, onTask, withGroup, opens, queues, closes, frees, nextAt, calls, passes}
-use Rattle.protocol.specs.Events.{withProcessors, givesWay}
+use Rattle.protocol.specs.Events.{withProcessors, leaves, givesWay}
 use Rattle.protocol.specs.declared.Standing.the-variants.{Active}
 use Rattle.protocol.specs.declared.Task.{Task}
 use Rattle.protocol.specs.declared.Group.{Group}
 use Rattle.protocol.specs.declared.State.{State}
-use Rattle.views.specs.Bounds.{latest, isBounded}
+use Rattle.views.specs.Bounds.{latest, isBounded, jobsWithin}
 use Rattle.locking.specs.Acting.{CanPass}
 
 -- a place of a list after one store: what was stored there, or as before
@@ -179,3 +180,8 @@ frees-setup g s = refl
 pub passes-setup : (g : ℕ) (s : State) → passes g s .setup ≡ s .setup
 unfolding passes opens calls
 passes-setup g s = refl
+
+-- ---- who leaves a state within its bounds, told its jobs
+pub leaves-told : (s : State) (t : ℕ) → isBounded s ≡ true → withProcessors (leaving (s .processors) (jobsWithin s) t) s ≡ leaves (s .setup) t s
+unfolding leaves jobsWithin
+leaves-told s t h = rw h

@@ -10,6 +10,7 @@ use crate::edits::with_processors;
 use crate::edits::with_task;
 use input::Event;
 use input::SetUp;
+use processors::Jobs;
 use processors::Processors;
 use protocol::Situation;
 use protocol::State;
@@ -21,15 +22,16 @@ ghost use lib.ListN.{getD};
 ghost use Rattle.search.specs.Words.{if_then_else_, _is_};
 ghost use Rattle.search.specs.Below.{anyBelow};
 ghost use Rattle.input.specs.Limits.{mostTasks, mostResources};
+ghost use Rattle.scheduler.specs.Leaving.{leaving};
 ghost use Rattle.setups.specs.Naming.{names, groupOf};
 ghost use Rattle.protocol.specs.Words.{nobody, absent, standingNo, lastClock, sum, noTask};
 ghost use Rattle.protocol.specs.Situations.{totalOf};
 ghost use Rattle.protocol.specs.Locks.{frees, passes};
-ghost use Rattle.protocol.specs.Events.{arrives, leaves, softens, givesWay, arriveEvent, finishEvent, requestEvent, completeEvent, charged, act};
+ghost use Rattle.protocol.specs.Events.{withProcessors, arrives, softens, givesWay, arriveEvent, finishEvent, requestEvent, completeEvent, charged, act};
 ghost use Rattle.locking.specs.Acting.{CanPass, CanRequest, CanComplete, CanAct, chargedTask};
 ghost use Rattle.views.specs.Bounds.{isBounded};
 
-// The scheduler's moves, told the jobs of the state.
+// The scheduler's moves, told the jobs of the state; who leaves is told them by the caller.
 fn arrive(state: State, t: u8) -> State
     requires { ⌜ isBounded state ≡ true ⌝ }
     ensures { λ r. ⌜ r ≡ arrives (state .setup) t state ⌝ }
@@ -38,12 +40,11 @@ fn arrive(state: State, t: u8) -> State
     with_processors(state, scheduler::arrive(p, views::jobs_of(state), t))
 }
 
-fn leave(state: State, t: u8) -> State
-    requires { ⌜ isBounded state ≡ true ⌝ }
-    ensures { λ r. ⌜ r ≡ leaves (state .setup) t state ⌝ }
+fn leave(state: State, jobs: Jobs, t: u8) -> State
+    ensures { λ r. ⌜ r ≡ withProcessors (leaving (state .processors) jobs t) state ⌝ }
 {
     let p = state.processors;
-    with_processors(state, scheduler::leave(p, views::jobs_of(state), t))
+    with_processors(state, scheduler::leave(p, jobs, t))
 }
 
 fn soften(state: State, t: u8) -> State
@@ -79,7 +80,8 @@ fn finish(state: State, t: u8) -> State
 {
     let tasks = state.tasks;
     let task = tables::task_at(tasks, t);
-    leave(with_task(state, t, departed(task)), t)
+    let gone = with_task(state, t, departed(task));
+    leave(gone, views::jobs_of(gone), t)
 }
 
 // Some open request is of kind `kind`.
@@ -118,7 +120,8 @@ fn request(state: State, named: [u8; SetUp::RESOURCES], t: u8, r: u8) -> State
         if kind == SetUp::SHORT {
             queued
         } else {
-            leave(queued, t)
+            // The holder inherits from `t` in the queue: the jobs are those of the state with it.
+            leave(queued, views::jobs_of(queued), t)
         }
     }
 }

@@ -28,8 +28,8 @@ pub fn totals_of(state: State, t: u8) -> [u32; Task::TOTALS]
     ensures { λ r. ⌜ r ≡ taskRecord state t .totals ⌝ }
 {
     let tasks = state.tasks;
-    let task = tables::task_at(tasks, t);
-    task.totals
+    let counted = tables::task_at(tasks, t);
+    counted.totals
 }
 
 // The task that processor `k` is linked to, and the task that runs there; 255 for none.

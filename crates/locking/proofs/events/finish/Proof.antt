@@ -1,7 +1,7 @@
 use borrow.Author.Needs.{needs}
 use Rattle.protocol.specs.Events.{finishEvent}
 use Rattle.protocol.specs.Locks.{departing}
-use Rattle.locking.proofs.Bounded.{bounds, task-bounded}
+use Rattle.locking.proofs.Bounded.{bounds, task-bounded, leaves-told}
 use Rattle.locking.proofs.events.finish.Statement.{statement}
 use Rattle.locking.proofs.events.finish.Tie as tie
 
@@ -14,23 +14,25 @@ departed-requires c κs = search needs
 with-task-requires : tie.Need-with-task-requires
 with-task-requires c κs = search needs
 
+jobs-of-requires : tie.Need-jobs-of-requires
+jobs-of-requires c κs = search needs
+
 leave-requires : tie.Need-leave-requires
-leave-requires c κs =
-    let start = c .before .before .before .before in
-    let task-at = c .before .before .task-at in
-    let s = start .args .state in
-    let b = bounds s (start .pre .1) in
-    rw (c .with-task .ensures, c .before .departed .ensures, task-at .ensures)
-    (task-bounded s (start .pre .1) (start .args .t) departing (search needs) (b .deep (start .args .t) (start .pre .0)))
+leave-requires c κs = search needs
 
 returns : tie.Need-returns
 unfolding finishEvent
 returns c =
-    let departed = c .before .before .departed in
-    let task-at = c .before .before .before .task-at in
-    rw (c .leave .ensures, c .before .with-task .ensures, departed .ensures, task-at .ensures)
+    let start = c .before .before .before .before .before .before in
+    let with-task = c .before .before .with-task in
+    let departed = c .before .before .before .departed in
+    let task-at = c .before .before .before .before .task-at in
+    let s = start .args .state in
+    let b = bounds s (start .pre .1) in
+    rw (c .leave .ensures, c .before .jobs-of .ensures, with-task .ensures, departed .ensures, task-at .ensures)
+    (leaves-told _ _ (task-bounded s (start .pre .1) (start .args .t) departing (search needs) (b .deep (start .args .t) (start .pre .0))))
 
 pub finish-spec : {M : Type 1} → statement M
 finish-spec =
     tie.close
-    (tie.spec task-at-requires departed-requires with-task-requires leave-requires returns)
+    (tie.spec task-at-requires departed-requires with-task-requires jobs-of-requires leave-requires returns)

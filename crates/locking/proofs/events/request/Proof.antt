@@ -3,7 +3,7 @@ use borrow.Author.Needs.{needs}
 use Rattle.setups.specs.Naming.{groupOf}
 use Rattle.protocol.specs.Words.{depth, request, holder}
 use Rattle.protocol.specs.Locks.{openOfKind, queues}
-use Rattle.locking.proofs.Bounded.{queues-bounded}
+use Rattle.locking.proofs.Bounded.{queues-bounded, leaves-told}
 use Rattle.locking.proofs.Branching.{request-open, request-spin, request-wait}
 use Rattle.locking.proofs.events.request.Statement.{statement}
 use Rattle.locking.proofs.events.request.Tie as tie
@@ -43,15 +43,11 @@ queue-request-requires c κs =
     let can = start .pre .1 in
     rw (number-at .ensures, start .pre .0) (can .inside, can .placed, kind-at .ensures)
 
+jobs-of-requires : tie.Need-jobs-of-requires
+jobs-of-requires c κs = search needs
+
 leave-requires : tie.Need-leave-requires
-unfolding groupOf
-leave-requires c κs =
-    let start = c .before .before .before .before .before .before .before .before .before .before .before .before .before .before in
-    let number-at = c .before .before .before .before .before .before .number-at in
-    let s = start .args .state in
-    let can = start .pre .1 in
-    rw (c .before .queue-request .ensures, number-at .ensures, start .pre .0)
-    (queues-bounded s (can .bounded) (groupOf (s .setup) (start .args .r)) (can .placed) (s .setup) (start .args .t) (start .args .r) (can .inside))
+leave-requires c κs = search needs
 
 returns : tie.Need-returns
 unfolding openOfKind depth request holder groupOf
@@ -85,18 +81,20 @@ returns-2 c =
 returns-3 : tie.Need-returns-3
 unfolding queues openOfKind depth request holder groupOf
 returns-3 c =
-    let start = c .before .before .before .before .before .before .before .before .before .before .before .before .before .before .before in
-    let has-kind = c .before .before .before .before .before .has-kind in
-    let kind-at = c .before .before .before .before .before .before .before .before .kind-at in
-    let task-at = c .before .before .before .before .before .before .before .before .before .before .task-at in
-    let group-at = c .before .before .before .before .before .before .group-at in
-    let number-at = c .before .before .before .before .before .before .before .number-at in
-    let if1 = c .before .before .before .if1 in
-    let queue-request = c .before .before .queue-request in
+    let start = c .before .before .before .before .before .before .before .before .before .before .before .before .before .before .before .before in
+    let has-kind = c .before .before .before .before .before .before .has-kind in
+    let kind-at = c .before .before .before .before .before .before .before .before .before .kind-at in
+    let task-at = c .before .before .before .before .before .before .before .before .before .before .before .task-at in
+    let group-at = c .before .before .before .before .before .before .before .group-at in
+    let number-at = c .before .before .before .before .before .before .before .before .number-at in
+    let if1 = c .before .before .before .before .if1 in
+    let queue-request = c .before .before .before .queue-request in
     let s = start .args .state in
     let h = rw (has-kind .ensures, kind-at .ensures, task-at .ensures, group-at .ensures, number-at .ensures, start .pre .0) at (if1 .left) in
-    rw (c .leave .ensures, queue-request .ensures, number-at .ensures, start .pre .0)
-    (sym (request-wait (s .setup) (start .args .t) (start .args .r) s h (λ e. c .before .if2 .left (kind-at .ensures ∙ e))))
+    let can = start .pre .1 in
+    let bounded = queues-bounded s (can .bounded) (groupOf (s .setup) (start .args .r)) (can .placed) (s .setup) (start .args .t) (start .args .r) (can .inside) in
+    rw (c .leave .ensures, c .before .jobs-of .ensures, queue-request .ensures, number-at .ensures, start .pre .0)
+    (leaves-told _ _ bounded ∙ sym (request-wait (s .setup) (start .args .t) (start .args .r) s h (λ e. c .before .before .if2 .left (kind-at .ensures ∙ e))))
 
 pub request-spec : {M : Type 1} → statement M
 request-spec =
@@ -110,6 +108,7 @@ request-spec =
     has-kind-requires
     open-request-requires
     queue-request-requires
+    jobs-of-requires
     leave-requires
     returns
     returns-2
