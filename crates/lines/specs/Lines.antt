@@ -11,16 +11,16 @@ use Rattle.states.specs.Writing.{lineOf}
 use Rattle.texts.specs.Lines.{firstText, eventText, taskLineText, lineInto, narrow}
 use Rattle.texts.specs.declared.Line.{Line}
 
-abbrev pub unsound : State → List ℕ → List Row
-unsound s out = 9 when not (sound s) otherwise narrow out
+-- the state is not sound, and then what else refuses the line
+abbrev unsound : State → List Row → List Row
+unsound s later = 9 when not (sound s) otherwise later
 
 module _ (out : List ℕ) where
   abbrev pub firstLine : State → Line × List ℕ
-  firstLine s = lineInto (unsound s out) (firstText (s .setup .processors) (s .setup .tasks) (s .setup .start)) out
+  firstLine s = lineInto (unsound s (narrow out)) (firstText (s .setup .processors) (s .setup .tasks) (s .setup .start)) out
 
   abbrev pub eventLine : State → ℕ → ℕ → Line × List ℕ
-  eventLine s number answer = lineInto (unsound s out) (eventText number (s .setup .processors) (lineOf answer (s .processors))) out
+  eventLine s number answer = lineInto (unsound s (narrow out)) (eventText number (s .setup .processors) (lineOf answer (s .processors))) out
 
   abbrev pub taskLine : State → ℕ → Line × List ℕ
-  taskLine s t =
-      lineInto (9 when not (sound s) otherwise 11 when leb (s .setup .tasks) t otherwise narrow out) (taskLineText t (task s t .totals)) out
+  taskLine s t = lineInto (unsound s (11 when leb (s .setup .tasks) t otherwise narrow out)) (taskLineText t (task s t .totals)) out

@@ -26,11 +26,15 @@ module _ (s : State) (part : List ℕ) where
   abbrev pub replyTo : ℕ → Reply
   replyTo n = replyFrom part n (playedTo n)
 
+  -- what is written of it
+  abbrev pub told : ℕ → List ℕ
+  told n = lineOf (replyTo n .answer) (replyTo n .state .processors)
+
 module _ (s : State) (part out : List ℕ) where
   -- the buffer after the first n events
   unfoldable pub writtenTo : ℕ → List ℕ
   writtenTo zero = out
-  writtenTo (suc n) = written (writtenTo n) (lineSize * n) (lineOf (replyTo s part n .answer) (replyTo s part n .state .processors))
+  writtenTo (suc n) = written (writtenTo n) (lineSize * n) (told s part n)
 
   -- the state and the buffer after all
   unfoldable pub played : State × List ℕ

@@ -7,8 +7,7 @@ use Rattle.search.specs.Words.{_is_, _isn't_}
 use Rattle.search.specs.Below.{anyBelow}
 use Rattle.search.specs.Rows.{Row, _when_, _otherwise_, firstOf}
 use Rattle.input.specs.Limits.{short, long}
-use Rattle.input.specs.Words.{period, kind}
-use Rattle.input.specs.Words.{within}
+use Rattle.input.specs.Words.{within, period, kind}
 use Rattle.setups.specs.Naming.{groupOf}
 use Rattle.input.specs.Kinds.{arrival, finish, request as asking, completion, passing, fieldsOf}
 use Rattle.input.specs.declared.SetUp.{SetUp}

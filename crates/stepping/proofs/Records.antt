@@ -8,10 +8,10 @@ use lib.ListN.{length, take, drop}
 use Rattle.processors.specs.declared.Processors.{Processors}
 use Rattle.protocol.specs.declared.State.{State}
 use Rattle.states.specs.Writing.{lineSize, places, lineOf}
-use Rattle.locking.specs.Playing.{writtenTo}
+use Rattle.locking.specs.Playing.{writtenTo, told}
 use Rattle.locking.proofs.Along.{long-along}
 use Rattle.texts.specs.Texts.{eachText}
-use Rattle.stepping.specs.Pages.{told, eventsText}
+use Rattle.stepping.specs.Pages.{eventsText}
 use Rattle.stepping.proofs.Parts.{written-there, written-before}
 
 -- the same texts below k, one behind another

@@ -11,8 +11,8 @@ use Rattle.protocol.specs.Words.{task}
 use Rattle.protocol.specs.Events.{begin, noSetUp, fresh}
 use Rattle.protocol.specs.declared.State.{State}
 use Rattle.protocol.specs.declared.Reply.{Reply}
-use Rattle.states.specs.Writing.{lineOf, written}
-use Rattle.locking.specs.Playing.{playedTo, replyTo}
+use Rattle.states.specs.Writing.{written}
+use Rattle.locking.specs.Playing.{playedTo, told}
 use Rattle.blocks.specs.Sizes.{mostEvents}
 use Rattle.blocks.specs.Verdicts.{verdict, usedPart}
 use Rattle.blocks.specs.declared.Verdict.{Verdict}
@@ -25,10 +25,6 @@ use Rattle.stepping.specs.declared.Page.{Page}
 -- how many numbers 64 bits hold
 abbrev pub wide : ℕ
 wide = 18446744073709551616
-
--- what is told of each event of a part
-abbrev pub told : State → List ℕ → ℕ → List ℕ
-told s part n = lineOf (replyTo s part n .answer) (replyTo s part n .state .processors)
 
 -- the lines of the first of some events, on so many processors, numbered on from `events`
 abbrev pub eventsText : (ℕ → List ℕ) → ℕ → ℕ → ℕ → List ℕ
