@@ -39,6 +39,9 @@ CALLS = [
     # Event kind 0, judged, stepped, and played twice: on a sound state 10, on the empty one 9.
     '10', '10', '10', '10',
     '9', '9', '9', '9',
+    # The largest numbers in a count of open requests, a queue's length, the counts, the times, and in all of them at once:
+    # judged, stepped and played, 9; and each line of such a state; not sound, and no job is told.
+    *(['9', '9', '9', '9', refused(9), refused(9), refused(9), '0 0'] * 5),
 ]
 
 

@@ -9,10 +9,11 @@ use native.Mathlib.Decide.{ℕ-discrete}
 use lib.ListN.{length, drop, length-drop}
 use lib.Seq.{length-take-le}
 use borrow.Author.Tests.{ne-eqb}
-use Rattle.search.specs.Rows.{firstOf}
+use Rattle.search.specs.Rows.{firstOf, standsAt, FirstAt}
 use Rattle.search.proofs.Tests.{tests}
-use Rattle.search.proofs.Refusals.{Given, NoneApplies, given-iff, none-iff}
+use Rattle.search.proofs.Refusals.{Given, NoneApplies, given-iff, none-iff, number-iff}
 use Rattle.blocks.specs.Sizes.{payloadAt, payloadSize}
+use Rattle.blocks.specs.Numbers.{BlockNumbers}
 use Rattle.blocks.specs.Verdicts.{mostFor, count, usedSize, isFirst, blockRows, verdict, usedPart, numberOf, lengthOf}
 
 used-fits : (block : List ℕ) (first : Bool) → count block ≤ mostFor first → usedSize block first ≤ payloadSize
@@ -45,3 +46,18 @@ module _ (block : List ℕ) (index : ℕ) where
         rw e (length-take-le _ (drop payloadAt block) (omega (arith, length-drop payloadAt block)))
     | no d ↦ rw (ne-eqb _ _ d)
   ]
+
+  -- each number, by its row
+  given-at : (n i : ℕ) → n ≢ 0 → standsAt (blockRows block index) n i ≡ true → (numberOf (verdict block index) ≡ n) ↔ FirstAt (blockRows block index) i
+  given-at n i d m = rw number-first (number-iff (blockRows block index) n i d m)
+
+  pub block-numbers : BlockNumbers block index
+  unfolding blockRows
+  block-numbers = record {
+    size-wrong = given-at 30 0 (λ e. omega arith) refl;
+    check-wrong = given-at 31 1 (λ e. omega arith) refl;
+    number-wrong = given-at 32 2 (λ e. omega arith) refl;
+    kind-wrong = given-at 33 3 (λ e. omega arith) refl;
+    count-wrong = given-at 34 4 (λ e. omega arith) refl;
+    filler-wrong = given-at 35 5 (λ e. omega arith) refl;
+  }

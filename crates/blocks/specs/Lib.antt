@@ -2,3 +2,4 @@ pub mod Check
 pub mod OneByte
 pub mod Sizes
 pub mod Verdicts
+pub mod Numbers

@@ -1,11 +1,14 @@
 -- Document 01, 'Blocks': changing any one byte of the 508 before the check is caught.
 use Prim.Native.Nat.{ℕ, _<_}
 use mathlib.Core.Path.{_≡_}
+use mathlib.Core.Bool.{true}
 use mathlib.Core.List.{List}
 use mathlib.Core.Logic.{_≢_}
+use lib.ListN.{length, set}
 use Rattle.input.specs.Layout.{byte}
-use Rattle.blocks.specs.Sizes.{checkAt}
-use Rattle.blocks.specs.Verdicts.{verdict}
+use Rattle.blocks.specs.Sizes.{checkAt, blockSize}
+use Rattle.blocks.specs.Check.{isChecked}
+use Rattle.blocks.specs.Verdicts.{verdict, numberOf}
 use Rattle.blocks.specs.declared.Verdict.the-variants.{Used}
 
 abbrev pub AreBytes : List ℕ → Type 0
@@ -21,3 +24,9 @@ pub record OneChanged (a b : List ℕ) : Type 0 where
 -- of two such blocks not both are accepted, at whatever indices
 abbrev pub OneByteIsCaught : Type 0
 OneByteIsCaught = (a b : List ℕ) → AreBytes a → AreBytes b → OneChanged a b → (k l m n : ℕ) → verdict a k ≡ Used m → verdict b l ≡ Used n → ⊥
+
+-- of the check itself: a block of 512 bytes whose check is right, with one of the first 508 bytes changed, is refused with 31, at
+-- whatever index
+abbrev pub OneByteIsRefused : Type 0
+OneByteIsRefused = (block : List ℕ) (place value index : ℕ) → AreBytes block → value < 256 → length block ≡ blockSize → isChecked block ≡ true
+    → place < checkAt → value ≢ byte block place → numberOf (verdict (set block place value) index) ≡ 31

@@ -142,6 +142,76 @@ fn tell_answers(call: u64, state: State)
     tell(call + 3, written[17]);
 }
 
+// ---- states with the largest numbers, which no session has: each is answered at once, with 9
+const MOST: usize = 18446744073709551615;
+
+// In the count of task 0's open requests.
+fn deep(state: State) -> State {
+    let mut next = state;
+    let mut task = next.tasks[0];
+    task.depth = MOST;
+    next.tasks[0] = task;
+    next
+}
+
+// In the length of group 0's queue.
+fn long_queued(state: State) -> State {
+    let mut next = state;
+    let mut group = next.groups[0];
+    let mut queue = group.queue;
+    queue.len = MOST;
+    group.queue = queue;
+    next.groups[0] = group;
+    next
+}
+
+// In the counts of the set-up and of the processors.
+fn crowded(state: State) -> State {
+    let mut next = state;
+    let mut setup = next.setup;
+    setup.processors = MOST;
+    setup.tasks = MOST;
+    setup.resources = MOST;
+    setup.pairs = MOST;
+    next.setup = setup;
+    let mut p = next.processors;
+    p.count = MOST;
+    next.processors = p;
+    next
+}
+
+// In task 0's deadline, last arrival and totals, and in the clock.
+fn late(state: State) -> State {
+    let mut next = state;
+    let mut task = next.tasks[0];
+    task.deadline = 18446744073709551615;
+    task.arrived = true;
+    task.last = 4294967295;
+    task.totals = [4294967295u32; Task::TOTALS];
+    next.tasks[0] = task;
+    next.clock = 4294967295;
+    next
+}
+
+// Whether a state is sound, and the rank of task 0's job.
+fn tell_view(call: u64, state: State) {
+    io::write_all(STDOUT_FILENO, b"call");
+    print_number(call);
+    print_number(if soundness::is_sound(state) { 1 } else { 0 });
+    let jobs = views::jobs_of(state);
+    let job = jobs.of[0];
+    print_number(job.rank);
+    io::write_all(STDOUT_FILENO, b"\n");
+}
+
+fn tell_hostile(call: u64, state: State)
+    requires { ⌜ call < 900 ⌝ }
+{
+    tell_answers(call, state);
+    state_lines(call + 4, state, 0, ENOUGH);
+    tell_view(call + 7, state);
+}
+
 pub fn run_all() {
     let sound = state_on(2);
     let empty = state_on(0);
@@ -160,4 +230,9 @@ pub fn run_all() {
     tell_verdict(31, 16960, 1000000);
     tell_answers(32, sound);
     tell_answers(36, empty);
+    tell_hostile(40, deep(sound));
+    tell_hostile(48, long_queued(sound));
+    tell_hostile(56, crowded(sound));
+    tell_hostile(64, late(sound));
+    tell_hostile(72, late(crowded(long_queued(deep(sound)))));
 }

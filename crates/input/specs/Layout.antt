@@ -73,3 +73,7 @@ module _ (bytes : List ℕ) where
   -- how many whole events there are
   unfoldable pub eventCount : ℕ
   eventCount = length bytes / eventSize
+
+  -- all of them, in order
+  abbrev pub eventsIn : List Event
+  eventsIn = table eventIn eventCount

@@ -15,12 +15,19 @@ use Rattle.texts.specs.declared.Line.{Line}
 abbrev unsound : State → List Row → List Row
 unsound s later = 9 when not (sound s) otherwise later
 
+-- what refuses the line of a state, and that of a task
+abbrev pub stateRows : State → List ℕ → List Row
+stateRows s out = unsound s (narrow out)
+
+abbrev pub taskRows : State → ℕ → List ℕ → List Row
+taskRows s t out = unsound s (11 when leb (s .setup .tasks) t otherwise narrow out)
+
 module _ (out : List ℕ) where
   abbrev pub firstLine : State → Line × List ℕ
-  firstLine s = lineInto (unsound s (narrow out)) (firstText (s .setup .processors) (s .setup .tasks) (s .setup .start)) out
+  firstLine s = lineInto (stateRows s out) (firstText (s .setup .processors) (s .setup .tasks) (s .setup .start)) out
 
   abbrev pub eventLine : State → ℕ → ℕ → Line × List ℕ
-  eventLine s number answer = lineInto (unsound s (narrow out)) (eventText number (s .setup .processors) (lineOf answer (s .processors))) out
+  eventLine s number answer = lineInto (stateRows s out) (eventText number (s .setup .processors) (lineOf answer (s .processors))) out
 
   abbrev pub taskLine : State → ℕ → Line × List ℕ
-  taskLine s t = lineInto (unsound s (11 when leb (s .setup .tasks) t otherwise narrow out)) (taskLineText t (task s t .totals)) out
+  taskLine s t = lineInto (taskRows s t out) (taskLineText t (task s t .totals)) out

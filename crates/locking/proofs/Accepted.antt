@@ -13,13 +13,14 @@ use Rattle.input.specs.Kinds.{request as asking, completion, passing, fieldsOf}
 use Rattle.input.specs.Words.{period}
 use Rattle.input.specs.declared.Event.{Event}
 use Rattle.setups.proofs.Accepted.{and-none-iff}
-use Rattle.protocol.specs.Words.{lastClock, task, stand, absent, deadline, depth, len, sum}
+use Rattle.protocol.specs.Words.{mostRequests, lastClock, task, stand, absent, deadline, depth, len, sum}
 use Rattle.protocol.specs.Sound.{sound}
 use Rattle.protocol.specs.Refusals.{stepOf, eventRows, judge}
 use Rattle.protocol.specs.Locks.{nextAt}
-use Rattle.protocol.specs.Events.{charged, step}
+use Rattle.protocol.specs.Events.{charged, stepBy, step}
 use Rattle.protocol.specs.declared.State.{State}
 use Rattle.protocol.proofs.Statements.{Sound}
+use Rattle.protocol.proofs.Reflect.{Shaped, sound-of-test}
 use Rattle.protocol.proofs.Dates.{charged-times}
 use Rattle.protocol.proofs.Step.{event-kinds, row11, row12, grouped, steady-of, asks-of, ends-of}
 use Rattle.views.specs.Bounds.{isBounded}
@@ -31,7 +32,7 @@ unfolding judge eventRows
 unsound-judged s e h = rw h
 
 pub unsound-stepped : (s : State) (e : Event) → sound s ≡ false → step s e ≡ record { answer = 9; state = s }
-unfolding step
+unfolding step stepBy
 unsound-stepped s e h = rw (unsound-judged s e h)
 
 pub accepted-sound : (s : State) (e : Event) → judge s e ≡ 0 → sound s ≡ true
@@ -42,11 +43,16 @@ accepted-sound s e ok = go (sound s) refl
     go false h = absurd (omega (arith, ok, unsound-judged s e h))
 
 pub step-answer : (s : State) (e : Event) → step s e .answer ≡ judge s e
-unfolding step
+unfolding step stepBy
 step-answer s e = elim (ℕ-discrete (judge s e) 0) [
   | yes x ↦ rw (eq-eqb (judge s e) 0 x, x)
   | no x ↦ rw (ne-eqb (judge s e) 0 x)
 ]
+
+-- no task of a sound state has more requests open than there may be
+pub few-open : (s : State) → Shaped s → sound s ≡ true → (t : ℕ) → task s t .depth ≤ mostRequests
+unfolding depth
+few-open s Z h t = sound-of-test s Z h .steady .locks .tasks t .opened .few
 
 -- ---- a sound state that accepts an event
 module _ (s : State) (e : Event) (Q : Sound s) (ok : judge s e ≡ 0) where

@@ -2,7 +2,7 @@
 use Prim.Native.Nat.{ℕ, zero, suc, _+_, _*_, _<_, _≤_}
 use mathlib.Core.Path.{_≡_, refl, sym, ap, _∙_}
 use mathlib.Core.Bool.{Bool, true, false}
-use mathlib.Core.List.{List, [], _∷_}
+use mathlib.Core.List.{List}
 use native.Mathlib.Numerals.{add-one}
 use native.Mathlib.Omega.{arith}
 use lib.ListN.{length}
@@ -10,25 +10,20 @@ use Rattle.input.specs.Limits.{mostTasks}
 use Rattle.input.specs.Layout.{eventIn}
 use Rattle.input.specs.declared.Event.{Event}
 use Rattle.setups.specs.Naming.{names}
-use Rattle.protocol.specs.Words.{task}
+use Rattle.protocol.specs.Words.{mostRequests, task, depth}
 use Rattle.protocol.specs.Sound.{sound}
-use Rattle.protocol.specs.Events.{step, run}
 use Rattle.protocol.specs.declared.State.{State}
 use Rattle.protocol.specs.declared.Task.{Task}
 use Rattle.protocol.specs.declared.Reply.{Reply}
 use Rattle.protocol.proofs.Statements.{Sound}
 use Rattle.protocol.proofs.Reflect.{Shaped, sound-of-test, test-of-sound}
-use Rattle.protocol.proofs.Step.{step-sound, run-setup}
+use Rattle.protocol.proofs.Step.{step-sound, step-setup}
 use Rattle.states.specs.Writing.{lineSize, lineOf, written}
 use Rattle.soundness.specs.declared.Tested.{Tested}
 use Rattle.locking.specs.Steps.{HasParts}
 use Rattle.locking.specs.Playing.{playable, playedTo, replyTo, writtenTo}
 use Rattle.locking.proofs.Accepted.{unsound-stepped}
 use Rattle.states.proofs.Writing.{written-long}
-
-step-setup : (s : State) (e : Event) → Sound s → step s e .state .setup ≡ s .setup
-unfolding run
-step-setup s e Q = run-setup s (e ∷ []) Q
 
 -- ---- the state
 module _ (s : State) (part : List ℕ) where
@@ -61,6 +56,10 @@ module _ (s : State) (part : List ℕ) where
       go : (b : Bool) → sound s ≡ b → length (playedTo s part n .tasks) ≡ mostTasks
       go true h = sound-along (sound-of-test s Z h) n .0 .steady .sized .tasks
       go false h = ap (λ (x : State). length (x .tasks)) (unsound-along h n) ∙ Z .sized .tasks
+
+  pub few-along : Shaped s → (n : ℕ) → sound s ≡ true → (t : ℕ) → task (playedTo s part n) t .depth ≤ mostRequests
+  unfolding depth
+  few-along Z n h t = sound-along (sound-of-test s Z h) n .0 .steady .locks .tasks t .opened .few
 
   -- what the answer to one event more is made of
   pub parts-along : Shaped s → (n : ℕ) (x : State) → x ≡ playedTo s part n → (r : Tested) → r ≡ record { passes = sound s; named = names (s .setup) }

@@ -10,7 +10,7 @@ use Rattle.setups.specs.Naming.{groupOf}
 use Rattle.input.specs.declared.SetUp.{SetUp}
 use Rattle.protocol.specs.Words.{nobody, holder, len}
 use Rattle.protocol.specs.Locks.{openOfKind, opens, queues, closes, frees, nextAt, passes}
-use Rattle.protocol.specs.Events.{arrives, leaves, softens, givesWay, requestEvent, completeEvent}
+use Rattle.protocol.specs.Events.{cold, arrives, leaves, softens, givesWay, requestEvent, completeEvent}
 use Rattle.protocol.specs.declared.State.{State}
 
 module _ (c : SetUp) (t r : ℕ) (s : State) where
@@ -26,17 +26,17 @@ module _ (c : SetUp) (t r : ℕ) (s : State) where
   unfolding requestEvent
   request-wait h k = rw (h, ne-eqb (kind c r) short k)
 
-  pub complete-inner : openOfKind c (closes t s) t r ≡ true → completeEvent c t r s ≡ closes t s
+  pub complete-inner : openOfKind c (closes t s) t r ≡ true → completeEvent cold c t r s ≡ closes t s
   unfolding completeEvent
   complete-inner h = rw h
 
   pub complete-short : openOfKind c (closes t s) t r ≡ false → kind c r ≡ short
-      → completeEvent c t r s ≡ softens c t (if len s (groupOf c r) is 0 then frees (groupOf c r) (closes t s) else passes (groupOf c r) (frees (groupOf c r) (closes t s)))
+      → completeEvent cold c t r s ≡ softens c t (if len s (groupOf c r) is 0 then frees (groupOf c r) (closes t s) else passes (groupOf c r) (frees (groupOf c r) (closes t s)))
   unfolding completeEvent
   complete-short h k = rw (h, eq-eqb (kind c r) short k)
 
   pub complete-long : openOfKind c (closes t s) t r ≡ false → (kind c r ≡ short → ⊥)
-      → completeEvent c t r s ≡ (if len s (groupOf c r) is 0 then givesWay c t (frees (groupOf c r) (closes t s))
-      else arrives c (nextAt s (groupOf c r)) (passes (groupOf c r) (givesWay c t (frees (groupOf c r) (closes t s)))))
+      → completeEvent cold c t r s ≡ (if len s (groupOf c r) is 0 then givesWay c t (frees (groupOf c r) (closes t s))
+      else arrives cold c (nextAt s (groupOf c r)) (passes (groupOf c r) (givesWay c t (frees (groupOf c r) (closes t s)))))
   unfolding completeEvent
   complete-long h k = rw (h, ne-eqb (kind c r) short k)

@@ -4,3 +4,4 @@ pub mod Bounded
 pub mod Branching
 pub mod Charging
 pub mod Shapes
+pub mod Runs

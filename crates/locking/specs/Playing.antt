@@ -6,6 +6,7 @@ use Rattle.input.specs.Layout.{eventIn, eventCount}
 use Rattle.protocol.specs.Events.{step}
 use Rattle.protocol.specs.declared.State.{State}
 use Rattle.protocol.specs.declared.Reply.{Reply}
+use Rattle.locking.specs.declared.Played.{Played}
 use Rattle.states.specs.Writing.{lineSize, lineOf, written}
 
 -- as many events as the part has whole and the buffer has room for
@@ -36,6 +37,6 @@ module _ (s : State) (part out : List ℕ) where
   writtenTo zero = out
   writtenTo (suc n) = written (writtenTo n) (lineSize * n) (told s part n)
 
-  -- the state and the buffer after all
-  unfoldable pub played : State × List ℕ
-  played = (playedTo s part (playable part out), writtenTo (playable part out))
+  -- the state and the buffer after all, and how many they were
+  unfoldable pub played : Played × List ℕ
+  played = (record { state = playedTo s part (playable part out); count = playable part out }, writtenTo (playable part out))

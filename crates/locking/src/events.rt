@@ -24,20 +24,23 @@ ghost use Rattle.search.specs.Below.{anyBelow};
 ghost use Rattle.input.specs.Limits.{mostTasks, mostResources};
 ghost use Rattle.scheduler.specs.Leaving.{leaving};
 ghost use Rattle.setups.specs.Naming.{names, groupOf};
-ghost use Rattle.protocol.specs.Words.{nobody, absent, standingNo, lastClock, sum, noTask};
+ghost use Rattle.protocol.specs.Words.{mostRequests, nobody, absent, standingNo, lastClock, sum, noTask};
 ghost use Rattle.protocol.specs.Situations.{totalOf};
 ghost use Rattle.protocol.specs.Locks.{frees, passes};
-ghost use Rattle.protocol.specs.Events.{withProcessors, arrives, softens, givesWay, arriveEvent, finishEvent, requestEvent, completeEvent, charged, act};
+ghost use Rattle.protocol.specs.Events.{cold, withProcessors, arrives, softens, givesWay, arriveEvent, finishEvent, requestEvent, completeEvent, charged, act};
 ghost use Rattle.locking.specs.Acting.{CanPass, CanRequest, CanComplete, CanAct, chargedTask};
 ghost use Rattle.views.specs.Bounds.{isBounded};
 
 // The scheduler's moves, told the jobs of the state; who leaves is told them by the caller.
 fn arrive(state: State, t: u8) -> State
     requires { ⌜ isBounded state ≡ true ⌝ }
-    ensures { λ r. ⌜ r ≡ arrives (state .setup) t state ⌝ }
+    ensures { λ r. ⌜ r ≡ arrives cold (state .setup) t state ⌝ }
 {
     let p = state.processors;
-    with_processors(state, scheduler::arrive(p, views::jobs_of(state), t))
+    with_processors(
+        state,
+        scheduler::arrive(p, views::jobs_of(state), t, Processors::NOBODY),
+    )
 }
 
 fn leave(state: State, jobs: Jobs, t: u8) -> State
@@ -64,7 +67,7 @@ fn give_way(state: State, t: u8) -> State
 
 fn arrival(state: State, t: u8) -> State
     requires { ⌜ (t < mostTasks) × (isBounded state ≡ true) ⌝ }
-    ensures { λ r. ⌜ r ≡ arriveEvent (state .setup) t state ⌝ }
+    ensures { λ r. ⌜ r ≡ arriveEvent cold (state .setup) t state ⌝ }
 {
     let setup = state.setup;
     let periods = setup.periods;
@@ -91,6 +94,7 @@ fn has_kind(
     depth: usize,
     kind: u8,
 ) -> bool
+    requires { ⌜ depth ≤ mostRequests ⌝ }
     ensures { λ r. ⌜ r ≡ anyBelow depth (λ i. getD kinds (getD requests i nobody) 0 is kind) ⌝ }
 {
     let mut some = false;
@@ -142,7 +146,7 @@ fn complete_short(state: State, t: u8, g: u8, idle: bool) -> State
 // An outermost long request is closed: `t` gives way, then `u`, the next of `g`, if any, becomes holder and resumes.
 fn complete_long(state: State, t: u8, g: u8, idle: bool, u: u8) -> State
     requires { ⌜ (isBounded state ≡ true) × (g < mostResources) × (idle ≡ false → CanPass state g) ⌝ }
-    ensures { λ r. ⌜ r ≡ (if idle then givesWay (state .setup) t (frees g state) else arrives (state .setup) u (passes g (givesWay (state .setup) t (frees g state)))) ⌝ }
+    ensures { λ r. ⌜ r ≡ (if idle then givesWay (state .setup) t (frees g state) else arrives cold (state .setup) u (passes g (givesWay (state .setup) t (frees g state)))) ⌝ }
 {
     let rest = give_way(free_group(state, g), t);
     if idle {
@@ -154,7 +158,7 @@ fn complete_long(state: State, t: u8, g: u8, idle: bool, u: u8) -> State
 
 fn complete(state: State, named: [u8; SetUp::RESOURCES], t: u8, r: u8) -> State
     requires { ⌜ (named ≡ names (state .setup)) × CanComplete state t (groupOf (state .setup) r) ⌝ }
-    ensures { λ x. ⌜ x ≡ completeEvent (state .setup) t r state ⌝ }
+    ensures { λ x. ⌜ x ≡ completeEvent cold (state .setup) t r state ⌝ }
 {
     let setup = state.setup;
     let kinds = setup.kinds;
@@ -225,7 +229,7 @@ pub fn charge(state: State, ticks: u16) -> State
 // An accepted event, on the state charged with its ticks.
 pub fn act_on(state: State, named: [u8; SetUp::RESOURCES], e: Event) -> State
     requires { ⌜ CanAct state named e ⌝ }
-    ensures { λ r. ⌜ r ≡ act (state .setup) e state ⌝ }
+    ensures { λ r. ⌜ r ≡ act cold (state .setup) e state ⌝ }
 {
     if e.kind == Event::ARRIVAL {
         arrival(state, e.task)

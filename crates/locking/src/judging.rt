@@ -9,12 +9,12 @@ use protocol::Task;
 ghost use mathlib.Core.Path.{_≡_};
 ghost use mathlib.Core.Bool.{true};
 ghost use mathlib.Core.List.{[], _++_};
-ghost use Prim.Native.Nat.{_-_};
+ghost use Prim.Native.Nat.{_-_, _≤_};
 ghost use lib.ListN.{getD};
 ghost use Rattle.search.specs.Words.{_is_};
 ghost use Rattle.search.specs.Below.{anyBelow};
 ghost use Rattle.search.specs.Rows.{_when_, _otherwise_, firstOf};
-ghost use Rattle.protocol.specs.Words.{nobody};
+ghost use Rattle.protocol.specs.Words.{nobody, mostRequests};
 ghost use Rattle.protocol.specs.Situations.{hindrance};
 ghost use Rattle.protocol.specs.Refusals.{fieldRows, judge};
 ghost use Rattle.protocol.specs.declared.State.{State};
@@ -40,6 +40,7 @@ pub fn hindrance_of(situation: Situation) -> u8
 
 // A request for `r` is open.
 fn is_open(requests: [u8; Task::REQUESTS], depth: usize, r: u8) -> bool
+    requires { ⌜ depth ≤ mostRequests ⌝ }
     ensures { λ o. ⌜ o ≡ anyBelow depth (λ i. getD requests i nobody is r) ⌝ }
 {
     let mut some = false;
@@ -57,6 +58,7 @@ fn is_misplaced(
     depth: usize,
     r: u8,
 ) -> bool
+    requires { ⌜ depth ≤ mostRequests ⌝ }
     ensures { λ o. ⌜ o ≡ anyBelow depth (λ i. isApart kinds named r (getD requests i nobody)) ⌝ }
 {
     let kind = tables::kind_at(kinds, r);
@@ -97,18 +99,17 @@ fn field_rows(tasks: usize, resources: usize, e: Event, later: u8) -> u8
     search::row(10, !known, r11)
 }
 
-// The first of 9 to 25 that applies, or 0, by what an event looks at in a state: the set-up, the clock, the record of the
-// event's task and the processors. `named` are the groups of the set-up, and `known` says whether the state is sound.
-pub fn judge_parts(
+// The first of 10 to 25 that applies, or 0, of a sound state by what an event looks at in it.
+fn judge_sound(
     setup: SetUp,
     clock: u32,
     task: Task,
     p: Processors,
     named: [u8; SetUp::RESOURCES],
-    known: bool,
     e: Event,
 ) -> u8
-    ensures { λ r. ⌜ ((s : State) → HasParts s setup clock task p named known e → r ≡ judge s e) ⌝ }
+    requires { ⌜ task .depth ≤ mostRequests ⌝ }
+    ensures { λ r. ⌜ ((s : State) → HasParts s setup clock task p named true e → r ≡ judge s e) ⌝ }
 {
     let kinds = setup.kinds;
     let periods = setup.periods;
@@ -136,5 +137,27 @@ pub fn judge_parts(
     let r16 = search::row(16, comes & (stand != Task::ABSENT), r17);
     let r15 = search::row(15, LAST_CLOCK < now, r16);
     let r14 = search::row(14, BACKWARD <= step_to(clock, e.tick), r15);
-    search::row(9, !known, field_rows(setup.tasks, setup.resources, e, r14))
+    field_rows(setup.tasks, setup.resources, e, r14)
+}
+
+// The first of 9 to 25 that applies, or 0, by what an event looks at in a state: the set-up, the clock, the record of the
+// event's task and the processors. `named` are the groups of the set-up, and `known` says whether the state is sound; of
+// one that is not, nothing else is looked at.
+pub fn judge_parts(
+    setup: SetUp,
+    clock: u32,
+    task: Task,
+    p: Processors,
+    named: [u8; SetUp::RESOURCES],
+    known: bool,
+    e: Event,
+) -> u8
+    requires { ⌜ (known ≡ true → task .depth ≤ mostRequests) ⌝ }
+    ensures { λ r. ⌜ ((s : State) → HasParts s setup clock task p named known e → r ≡ judge s e) ⌝ }
+{
+    if known {
+        judge_sound(setup, clock, task, p, named, e)
+    } else {
+        9
+    }
 }

@@ -7,5 +7,12 @@ mod playing;
 mod sessions;
 
 pub use playing::play;
+use protocol::State;
 pub use sessions::judge;
 pub use sessions::step;
+
+// What a part's events gave: the state after those that were played, and how many they were.
+pub struct Played {
+    pub state: State,
+    pub count: usize,
+}

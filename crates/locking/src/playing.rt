@@ -1,4 +1,5 @@
 // The events of a whole part, with one sound test.
+use crate::Played;
 use crate::judging::judge_parts;
 use crate::sessions::after;
 use input::SetUp;
@@ -21,8 +22,8 @@ fn put_line(out: &mut [u8], at: usize, line: [u8; Reply::LINE]) -> usize
     at + Reply::LINE
 }
 
-// Plays as many events as `part` has and `out` has room for; the state after them.
-pub fn play(state: State, part: &[u8], out: &mut [u8]) -> State
+// Plays as many events as `part` has whole and `out` has room for; the state after them, and how many they were.
+pub fn play(state: State, part: &[u8], out: &mut [u8]) -> Played
     ensures { λ r. ⌜ (r, now (out .exit)) ≡ played state (now (part .entry)) (now (out .entry)) ⌝ }
 {
     let tested = soundness::test(state);
@@ -49,5 +50,8 @@ pub fn play(state: State, part: &[u8], out: &mut [u8]) -> State
         at = put_line(out, at, states::line_of(answer, p));
         now_state = next;
     }
-    now_state
+    Played {
+        state: now_state,
+        count,
+    }
 }

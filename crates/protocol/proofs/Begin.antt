@@ -118,9 +118,9 @@ module _ (c : SetUp) (good : setUpRefusal c ≡ 0) (clean : isClear c ≡ true) 
           };
           blank = record { requests = λ t i _. no-task-blank c s t (no-task t) i; queues = λ g. no-group-tidy c s g (no-group g) };
           locks = record { tasks = λ t. no-task-locks c s t (no-task t); groups = λ g. no-group-locks c s g (no-group g) nobody };
-          placed = none-placed (c .processors) (jobs c s) (accepted-iff c .0 good .processors .1)
-              (λ t r. let e = gone c s t (no-task t) in ⊎-elim (λ q. omega arith) (λ q. omega arith) (mode-runs c s t (r .mode) .1));
         };
+        placed = none-placed (c .processors) (jobs c s) (accepted-iff c .0 good .processors .1)
+            (λ t r. let e = gone c s t (no-task t) in ⊎-elim (λ q. omega arith) (λ q. omega arith) (mode-runs c s t (r .mode) .1));
       }
 
 begin-is : (c : SetUp) → setUpRefusal c ≡ 0 → begin c .state ≡ fresh (cleared c)

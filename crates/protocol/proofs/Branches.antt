@@ -1,18 +1,42 @@
--- The branches of a request and of a completion, taken apart once. Assumes nothing.
-use Prim.Native.Nat.{ℕ}
+-- The kinds of event, and the branches of a request and of a completion, taken apart once. Assumes nothing.
+use Prim.Native.Nat.{ℕ, _≤_}
 use mathlib.Core.Path.{_≡_, refl}
 use mathlib.Core.Bool.{Bool, true, false}
 use mathlib.Core.Logic.{_≢_, _⊎_, inl, inr}
-use borrow.Author.Tests.{eqb-true, eqb-false}
-use Rattle.search.specs.Words.{_is_}
+use native.Mathlib.Omega.{arith}
+use native.Mathlib.Decide.{ℕ-discrete}
+use borrow.Author.Tests.{eqb-true, eqb-false, eq-eqb, ne-eqb}
+use Rattle.search.specs.Words.{if_then_else_, _is_}
 use Rattle.input.specs.Limits.{short}
 use Rattle.input.specs.Words.{kind}
+use Rattle.input.specs.Kinds.{arrival, finish, request as asking, completion, passing}
 use Rattle.setups.specs.Naming.{groupOf}
 use Rattle.input.specs.declared.SetUp.{SetUp}
 use Rattle.protocol.specs.Words.{nobody, holder, len}
-use Rattle.protocol.specs.Locks.{openOfKind, opens, queues, closes, frees, nextAt, passes}
-use Rattle.protocol.specs.Events.{arrives, leaves, softens, givesWay, requestEvent, completeEvent}
+use Rattle.protocol.specs.Locks.{openOfKind, opens, queues, closes, frees, nextAt, passes, requestEdit, completeEdit}
+use Rattle.protocol.specs.Events.{Prefers, arrives, leaves, softens, givesWay, requestEvent, completeEvent}
 use Rattle.protocol.specs.declared.State.{State}
+
+pub kind-by : (P : State → Type 0) (n : ℕ) (a b q d z : State) → (arrival ≤ n) × (n ≤ passing)
+    → (n ≡ arrival → P a) → (n ≡ finish → P b) → (n ≡ asking → P q) → (n ≡ completion → P d) → (n ≡ passing → P z)
+    → P (if n is arrival then a else if n is finish then b else if n is asking then q else if n is completion then d else z)
+kind-by P n a b q d z l comes goes asks ends passes =
+    elim (ℕ-discrete n arrival) [
+      | yes k ↦ rw (eq-eqb _ _ k) (comes k)
+      | no u ↦ rw (ne-eqb _ _ u) (
+          elim (ℕ-discrete n finish) [
+            | yes k ↦ rw (eq-eqb _ _ k) (goes k)
+            | no v ↦ rw (ne-eqb _ _ v) (
+                elim (ℕ-discrete n asking) [
+                  | yes k ↦ rw (eq-eqb _ _ k) (asks k)
+                  | no w ↦ rw (ne-eqb _ _ w) (
+                      elim (ℕ-discrete n completion) [
+                        | yes k ↦ rw (eq-eqb _ _ k) (ends k)
+                        | no x ↦ rw (ne-eqb _ _ x) (passes (omega (arith, l .0, l .1)))
+                      ])
+                ])
+          ])
+    ]
 
 module _ (c : SetUp) (t r : ℕ) (s : State) (P : State → Type 0) where
   pub request-by : ((openOfKind c s t r ≡ true) ⊎ (holder s (groupOf c r) ≡ nobody) → P (opens t r (groupOf c r) s))
@@ -28,19 +52,45 @@ module _ (c : SetUp) (t r : ℕ) (s : State) (P : State → Type 0) where
       go false e false f true q = rw (e, f, q) (b e (eqb-false _ _ f) (eqb-true _ _ q))
       go false e false f false q = rw (e, f, q) (d e (eqb-false _ _ f) (eqb-false _ _ q))
 
+module _ (pick : Prefers) (c : SetUp) (t r : ℕ) (s : State) (P : State → Type 0) where
   pub complete-by : (openOfKind c (closes t s) t r ≡ true → P (closes t s))
       → (openOfKind c (closes t s) t r ≡ false → kind c r ≡ short → len s (groupOf c r) ≡ 0 → P (softens c t (frees (groupOf c r) (closes t s))))
       → (openOfKind c (closes t s) t r ≡ false → kind c r ≡ short → len s (groupOf c r) ≢ 0 → P (softens c t (passes (groupOf c r) (frees (groupOf c r) (closes t s)))))
       → (openOfKind c (closes t s) t r ≡ false → kind c r ≢ short → len s (groupOf c r) ≡ 0 → P (givesWay c t (frees (groupOf c r) (closes t s))))
       → (openOfKind c (closes t s) t r ≡ false → kind c r ≢ short → len s (groupOf c r) ≢ 0
-      → P (arrives c (nextAt s (groupOf c r)) (passes (groupOf c r) (givesWay c t (frees (groupOf c r) (closes t s))))))
-      → P (completeEvent c t r s)
+      → P (arrives pick c (nextAt s (groupOf c r)) (passes (groupOf c r) (givesWay c t (frees (groupOf c r) (closes t s))))))
+      → P (completeEvent pick c t r s)
   unfolding completeEvent
   complete-by inner se sp le lp = go (openOfKind c (closes t s) t r) refl (kind c r is short) refl (len s (groupOf c r) is 0) refl
     where
-      go : (x : Bool) → openOfKind c (closes t s) t r ≡ x → (k : Bool) → (kind c r is short) ≡ k → (n : Bool) → (len s (groupOf c r) is 0) ≡ n → P (completeEvent c t r s)
+      go : (x : Bool) → openOfKind c (closes t s) t r ≡ x → (k : Bool) → (kind c r is short) ≡ k → (n : Bool) → (len s (groupOf c r) is 0) ≡ n → P (completeEvent pick c t r s)
       go true e k q n z = rw e (inner e)
       go false e true q true z = rw (e, q, z) (se e (eqb-true _ _ q) (eqb-true _ _ z))
       go false e true q false z = rw (e, q, z) (sp e (eqb-true _ _ q) (eqb-false _ _ z))
       go false e false q true z = rw (e, q, z) (le e (eqb-false _ _ q) (eqb-true _ _ z))
       go false e false q false z = rw (e, q, z) (lp e (eqb-false _ _ q) (eqb-false _ _ z))
+
+-- ---- tasks and groups alone
+module _ (c : SetUp) (t r : ℕ) (s : State) (P : State → Type 0) where
+  pub request-edit-by : ((openOfKind c s t r ≡ true) ⊎ (holder s (groupOf c r) ≡ nobody) → P (opens t r (groupOf c r) s))
+      → (openOfKind c s t r ≡ false → holder s (groupOf c r) ≢ nobody → P (queues c t r (groupOf c r) s))
+      → P (requestEdit c t r s)
+  unfolding requestEdit
+  request-edit-by a b = go (openOfKind c s t r) refl (holder s (groupOf c r) is nobody) refl
+    where
+      go : (x : Bool) → openOfKind c s t r ≡ x → (y : Bool) → (holder s (groupOf c r) is nobody) ≡ y → P (requestEdit c t r s)
+      go true e y f = rw e (a (inl e))
+      go false e true f = rw (e, f) (a (inr (eqb-true _ _ f)))
+      go false e false f = rw (e, f) (b e (eqb-false _ _ f))
+
+  pub complete-edit-by : (openOfKind c (closes t s) t r ≡ true → P (closes t s))
+      → (openOfKind c (closes t s) t r ≡ false → len s (groupOf c r) ≡ 0 → P (frees (groupOf c r) (closes t s)))
+      → (openOfKind c (closes t s) t r ≡ false → len s (groupOf c r) ≢ 0 → P (passes (groupOf c r) (frees (groupOf c r) (closes t s))))
+      → P (completeEdit c t r s)
+  unfolding completeEdit
+  complete-edit-by inner empty pass = go (openOfKind c (closes t s) t r) refl (len s (groupOf c r) is 0) refl
+    where
+      go : (x : Bool) → openOfKind c (closes t s) t r ≡ x → (n : Bool) → (len s (groupOf c r) is 0) ≡ n → P (completeEdit c t r s)
+      go true e n z = rw e (inner e)
+      go false e true z = rw (e, z) (empty e (eqb-true _ _ z))
+      go false e false z = rw (e, z) (pass e (eqb-false _ _ z))

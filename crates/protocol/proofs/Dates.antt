@@ -17,6 +17,7 @@ use Rattle.queue.specs.declared.Queue.{Queue}
 use Rattle.processors.specs.Limits.{processors}
 use Rattle.processors.specs.Words.{linkOf, runOf}
 use Rattle.processors.specs.declared.Processors.{Processors}
+use Rattle.scheduler.specs.Placed.{Placed}
 use Rattle.scheduler.proofs.Laws.{alike-law}
 use Rattle.input.specs.Limits.{mostTasks}
 use Rattle.input.specs.Words.{period}
@@ -47,7 +48,6 @@ dates x = (x .arrived, x .last, x .deadline, x .totals)
 pub record Quiet (s s′ : State) : Type 0 where
   pub setup : s′ .setup ≡ s .setup
   pub clock : s′ .clock ≡ s .clock
-  pub count : s′ .processors .count ≡ s .processors .count
   pub dated : (u : ℕ) → dates (task s′ u) ≡ dates (task s u)
   pub still : (u : ℕ) → (stand s′ u is absent) ≡ (stand s u is absent)
 
@@ -55,7 +55,6 @@ pub quiet-then : (s₁ s₂ s₃ : State) → Quiet s₁ s₂ → Quiet s₂ s�
 quiet-then s₁ s₂ s₃ P Q = record {
   setup = Q .setup ∙ P .setup;
   clock = Q .clock ∙ P .clock;
-  count = Q .count ∙ P .count;
   dated = λ u. Q .dated u ∙ P .dated u;
   still = λ u. Q .still u ∙ P .still u;
 }
@@ -66,7 +65,6 @@ unfolding stand
 quiet-task s t f keep stay = record {
   setup = refl;
   clock = refl;
-  count = refl;
   dated = kept dates (keep (task s t));
   still = kept (λ x. standingNo (x .standing) is absent) stay;
 }
@@ -81,11 +79,11 @@ quiet-task s t f keep stay = record {
 
 pub quiet-group : (s : State) (g h : ℕ) (q : Queue) → Quiet s (withGroup g h q s)
 unfolding stand
-quiet-group s g h q = record { setup = refl; clock = refl; count = refl; dated = λ u. refl; still = λ u. refl }
+quiet-group s g h q = record { setup = refl; clock = refl; dated = λ u. refl; still = λ u. refl }
 
-pub quiet-with : (s : State) (p : Processors) → p .count ≡ s .processors .count → Quiet s (withProcessors p s)
+pub quiet-with : (s : State) (p : Processors) → Quiet s (withProcessors p s)
 unfolding stand
-quiet-with s p e = record { setup = refl; clock = refl; count = e; dated = λ u. refl; still = λ u. refl }
+quiet-with s p = record { setup = refl; clock = refl; dated = λ u. refl; still = λ u. refl }
 
 -- ---- the times of a task
 module _ (c : SetUp) (now : ℕ) (s s′ : State) (t : ℕ) where
@@ -186,12 +184,11 @@ module _ (s : State) (n : ℕ) (Z : Sized s) where
   aged-own : (w : ℕ) → own (charged n s) w ≡ own s w
   aged-own w = same-own s (charged n s) w (aged-at w .dated .2)
 
-pub charged-steady : (c : SetUp) → Grouped c → (s : State) (n : ℕ) → Steady c s → Steady c (charged n s)
+pub charged-steady : (c : SetUp) (s : State) (n : ℕ) → Steady c s → Steady c (charged n s)
 unfolding charged aged
-charged-steady c G s n S =
+charged-steady c s n S =
     let Z = S .sized in
     let s′ = charged n s in
-    let L′ = same-locks c s s′ nobody (same-aged s n Z) (same-lines s n Z) (S .locks) in
     record {
       sized = record {
         tasks = table-length (aged s n) mostTasks;
@@ -200,12 +197,17 @@ charged-steady c G s n S =
         totals = λ t. aged-at s n Z t .sized ∙ Z .totals t;
       };
       blank = record { requests = λ t. same-gone s s′ (S .blank) t (same-aged s n Z t); queues = S .blank .queues };
-      locks = L′;
-      placed = alike-law (s .processors) (jobs c s) (jobs c s′) (S .placed) (record {
-        modes = λ u. mode-kept c s s′ u (same-aged s n Z u);
-        ranks = λ u. rank-kept c s s′ u (λ l. rank-same c G s s′ nobody nobody (S .locks) L′ u (λ z. omega arith) (aged-own s n Z u) (λ w _. aged-own s n Z w) (λ g _. inl (same-lines s n Z g)));
-      });
+      locks = same-locks c s s′ nobody (same-aged s n Z) (same-lines s n Z) (S .locks);
     }
+
+pub charged-placed : (c : SetUp) → Grouped c → (s : State) (n : ℕ) → Steady c s → Placed (s .processors) (jobs c s) → Placed (s .processors) (jobs c (charged n s))
+charged-placed c G s n S P =
+    let Z = S .sized in
+    let s′ = charged n s in
+    alike-law (s .processors) (jobs c s) (jobs c s′) P (record {
+      modes = λ u. mode-kept c s s′ u (same-aged s n Z u);
+      ranks = λ u. rank-kept c s s′ u (λ l. rank-same c G s s′ nobody nobody (S .locks) (charged-steady c s n S .locks) u (λ z. omega arith) (aged-own s n Z u) (λ w _. aged-own s n Z w) (λ g _. inl (same-lines s n Z g)));
+    })
 
 if-most : (b : Bool) (n : ℕ) → (if b then n else 0) ≤ n
 if-most true n = omega arith
@@ -244,10 +246,10 @@ module _ (s : State) (t : ℕ) (h : t < length (s .tasks)) (T : Times s) where
         (λ u d. times-carry (s .setup) (s .clock) s (onTask t f s) u (ap dates (task-off s t f u d)) (ap (λ (x : Task). standingNo (x .standing) is absent) (task-off s t f u d)) (T .tasks u));
   }
 
-  pub comes-times : t < s .setup .tasks → Times (onTask t (arriving (s .clock) (s .clock + period (s .setup) t)) s)
+  pub comes-times : t < s .setup .tasks → (due : ℕ) → due ≡ s .clock + period (s .setup) t → Times (onTask t (arriving (s .clock) due) s)
   unfolding stand deadline
-  comes-times named =
-      let f = arriving (s .clock) (s .clock + period (s .setup) t) in
+  comes-times named due by =
+      let f = arriving (s .clock) due in
       let e : task (onTask t f s) t ≡ f (task s t) = task-at s t f h in
       let l : task (onTask t f s) t .last ≡ s .clock = ap (λ (x : Task). x .last) e in
       one-times f record {

@@ -5,9 +5,8 @@ use mathlib.Core.Logic.{_≢_, _⊎_, inl, inr, ⊎-elim}
 use native.Mathlib.Omega.{arith}
 use native.Mathlib.Decide.{ℕ-discrete, decLt}
 use Rattle.search.proofs.Pigeons.{fewer}
-use Rattle.processors.specs.Limits.{nonPreemptable}
-use Rattle.processors.specs.Words.{runs, runOf, modeOf}
-use Rattle.scheduler.proofs.Laws.{nonpreemptable-running, runs-there}
+use Rattle.processors.specs.Words.{runs, runOf}
+use Rattle.scheduler.specs.Placed.{Served}
 use Rattle.input.specs.Limits.{mostTasks, short, long}
 use Rattle.input.specs.Words.{kind}
 use Rattle.setups.specs.Naming.{groupOf}
@@ -54,16 +53,10 @@ module _ (c : SetUp) (G : Grouped c) (s : State) (L : Locks c s) where
             inr (y .0, ⊎-elim (λ z. z) (λ z. absurd (omega (arith, z .1, k))) (holder-stands (groupOf c (asked s o)) (held o (omega (arith, y .0)))))) (holder-stands (groupOf c (asked s t)) (held t h)),
       )
 
-module _ (c : SetUp) (G : Grouped c) (s : State) (S : Steady c s) (g : ℕ) (is-short : kind c g ≡ short) (busy : holder s g ≢ nobody) where
+module _ (c : SetUp) (G : Grouped c) (s : State) (S : Steady c s) (X : Served (s .processors) (jobs c s)) (g : ℕ) (is-short : kind c g ≡ short) (busy : holder s g ≢ nobody) where
   -- a non-preemptable job runs on one of the processors
   abbrev Runs : ℕ → Type 0
   Runs t = (runOf (s .processors) t < s .processors .count) × (runs (s .processors) (runOf (s .processors) t) ≡ t)
-
-  hard-runs : (t : ℕ) → t < mostTasks → modeOf (jobs c s) t ≡ nonPreemptable → Runs t
-  hard-runs t l e =
-      let p = s .processors in
-      let on = runs-there p t (nonpreemptable-running p (jobs c s) (S .placed) t l e) in
-      (elim (decLt (runOf p t) (p .count)) [ yes y ↦ y | no y ↦ absurd (omega (arith, S .placed .settled .beyond (runOf p t) (omega arith) .1)) ], on)
 
   holder-runs : Runs (holder s g)
   holder-runs =
@@ -72,7 +65,7 @@ module _ (c : SetUp) (G : Grouped c) (s : State) (S : Steady c s) (g : ℕ) (is-
       let r = L .tasks (holder s g) .opened .held (k .0) (k .1) in
       let l : holder s g < mostTasks = omega (arith, G .few-tasks, held-in c G s nobody L g busy .1) in
       ⊎-elim
-      (λ z. hard-runs (holder s g) l (mode-hard c s (holder s g) l z (short-true c s (holder s g) (k .0) (k .1) (sym (G .alike _ (r .0)) ∙ ap (kind c) (k .2) ∙ is-short))))
+      (λ z. X .hard (holder s g) l (mode-hard c s (holder s g) l z (short-true c s (holder s g) (k .0) (k .1) (sym (G .alike _ (r .0)) ∙ ap (kind c) (k .2) ∙ is-short))))
       (λ z. absurd (omega (arith, z .1))) (holder-stands c G s L g busy)
 
   waiter-runs : (i : ℕ) → i < len s g → Runs (waiter s g i)
@@ -80,7 +73,7 @@ module _ (c : SetUp) (G : Grouped c) (s : State) (S : Steady c s) (g : ℕ) (is-
       let q = S .locks .groups g .queued i l in
       let W = S .locks .tasks (waiter s g i) .waits (q .0) in
       let b = pending-in c G s nobody (waiter s g i) (S .locks) (λ e. omega (arith, q .0)) in
-      hard-runs (waiter s g i) b (mode-spin c s (waiter s g i) b (omega (arith, W .kinds, G .alike _ (W .inside), ap (kind c) (q .1))))
+      X .hard (waiter s g i) b (mode-spin c s (waiter s g i) b (omega (arith, W .kinds, G .alike _ (W .inside), ap (kind c) (q .1))))
 
   -- the holder does not wait where it holds
   not-both : (i : ℕ) → i < len s g → waiter s g i ≢ holder s g

@@ -11,18 +11,19 @@ use Rattle.search.proofs.Tests.{tests}
 use Rattle.search.proofs.Pigeons.{howMany-same}
 use Rattle.processors.specs.Limits.{processors, tasks, nobody, preemptable}
 use Rattle.processors.specs.Words.{modeOf, isRunnable as isRunnableJob, isAhead as isAheadJob}
-use Rattle.scheduler.proofs.Laws.{linked-law, linked-many-law}
+use Rattle.scheduler.specs.Placed.{Settled, Counted}
+use Rattle.scheduler.proofs.Laws.{counted-law}
 use Rattle.input.specs.Limits.{mostTasks, short}
 use Rattle.input.specs.Words.{kind}
 use Rattle.setups.specs.Naming.{groupOf}
-use Rattle.protocol.specs.Words.{absent, spinning, suspended, standingNo, task, stand, asked, holder, len, waiter}
+use Rattle.protocol.specs.Words.{absent, active, spinning, suspended, standingNo, task, stand, asked, holder, len, waiter}
 use Rattle.protocol.specs.Ranks.{jobs}
 use Rattle.protocol.specs.Demands.{isRunnable, isAhead, PrioritiesApart, LinksHighest, OneHolder, Waiting, WaitsFor, ChainsEnd, OnePlace}
 use Rattle.protocol.specs.declared.Lock.the-variants.{Short, Long}
 use Rattle.protocol.specs.declared.Standing.{Standing}
 use Rattle.protocol.specs.declared.Standing.the-variants.{Absent, Active, Waiting as WaitingFor}
 use Rattle.protocol.specs.declared.State.{State}
-use Rattle.protocol.proofs.Statements.{Grouped, Sound}
+use Rattle.protocol.proofs.Statements.{Grouped, Sound, SoundCounting}
 use Rattle.protocol.proofs.Begin.{accepted-grouped}
 use Rattle.protocol.proofs.Ranks.{ranks-apart}
 use Rattle.protocol.proofs.Told.{rank-told, mode-active, mode-spin, mode-sleep, mode-absent}
@@ -34,10 +35,7 @@ no-more Active = omega arith
 no-more (WaitingFor (Short r)) = omega arith
 no-more (WaitingFor (Long r)) = omega arith
 
-module _ (s : State) (Q : Sound s) where
-  G : Grouped (s .setup)
-  G = accepted-grouped (s .setup) (Q .setup)
-
+module _ (s : State) where
   stand-most : (t : ℕ) → stand s t ≤ suspended
   unfolding stand
   stand-most t = no-more (task s t .standing)
@@ -58,6 +56,70 @@ module _ (s : State) (Q : Sound s) where
   told-ahead : (t u : ℕ) → t < mostTasks → u < mostTasks → isAheadJob (jobs (s .setup) s) t u ≡ isAhead s t u
   told-ahead t u h l = rw (told-runnable u l, rank-told (s .setup) s t h, rank-told (s .setup) s u l)
 
+  -- the counting form, of the jobs that the scheduler is told and of the state
+  counted : (m : ℕ) → s .processors .count ≡ m → Settled (s .processors) (jobs (s .setup) s) → Counted (s .processors) (jobs (s .setup) s) → LinksHighest s m
+  counted m e S C = record {
+    highest = λ t h.
+        let many = howMany-same (isAheadJob (jobs (s .setup) s) t) (isAhead s t) mostTasks (λ u l. told-ahead t u h l) in (
+          (λ x.
+              let y = C .highest t h .0 x in
+              (sym (told-runnable t h) ∙ le-leb _ _ (y .0 .mode), omega (arith, many, y .1, e))),
+          λ x. C .highest t h .1 (record { task = h; mode = leb-true _ _ (told-runnable t h ∙ x .0) }, omega (arith, many, x .1, e)),
+        );
+    once = S .linked-once;
+    many =
+        let r = howMany-same (isRunnableJob (jobs (s .setup) s)) (isRunnable s) mostTasks told-runnable in
+        omega (arith, C .many, r, e);
+  }
+
+  uncounted : (m : ℕ) → s .processors .count ≡ m → LinksHighest s m → Counted (s .processors) (jobs (s .setup) s)
+  uncounted m e L = record {
+    highest = λ t h.
+        let many = howMany-same (isAheadJob (jobs (s .setup) s) t) (isAhead s t) mostTasks (λ u l. told-ahead t u h l) in (
+          (λ x.
+              let y = L .highest t h .0 x in
+              (record { task = h; mode = leb-true _ _ (told-runnable t h ∙ y .0) }, omega (arith, many, y .1, e))),
+          λ x. L .highest t h .1 (sym (told-runnable t h) ∙ le-leb _ _ (x .0 .mode), omega (arith, many, x .1, e)),
+        );
+    many =
+        let r = howMany-same (isRunnableJob (jobs (s .setup) s)) (isRunnable s) mostTasks told-runnable in
+        omega (arith, L .many, r, e);
+  }
+
+-- 'linked jobs as demand 3 says': the sound state with the counting form in place of the exchange form
+pub sound-counting : (s : State) → Sound s ↔ SoundCounting s
+sound-counting s = (
+  (λ Q.
+      let P = Q .placed in
+      record {
+        setup = Q .setup;
+        clean = Q .clean;
+        count = Q .count;
+        times = Q .times;
+        sized = Q .steady .sized;
+        blank = Q .steady .blank;
+        locks = Q .steady .locks;
+        settled = P .settled;
+        highest = counted s _ (Q .count) (P .settled) (counted-law (s .processors) (jobs (s .setup) s) (P .settled) .0 P);
+      }),
+  λ Q. record {
+    setup = Q .setup;
+    clean = Q .clean;
+    count = Q .count;
+    times = Q .times;
+    steady = record {
+      sized = Q .sized;
+      blank = Q .blank;
+      locks = Q .locks;
+    };
+    placed = counted-law (s .processors) (jobs (s .setup) s) (Q .settled) .1 (uncounted s _ (Q .count) (Q .highest));
+  },
+)
+
+module _ (s : State) (Q : Sound s) where
+  G : Grouped (s .setup)
+  G = accepted-grouped (s .setup) (Q .setup)
+
   pub priorities-apart : PrioritiesApart s
   priorities-apart t u h l r q e =
       let a = simp tests at r in
@@ -65,23 +127,7 @@ module _ (s : State) (Q : Sound s) where
       ranks-apart (s .setup) G s nobody (Q .steady .locks) t u h l (a .1) (b .1) e
 
   pub links-highest : LinksHighest s (s .setup .processors)
-  links-highest =
-      let P = Q .steady .placed in
-      record {
-        highest = λ t h.
-            let law = linked-law (s .processors) (jobs (s .setup) s) P t h in
-            let many = howMany-same (isAheadJob (jobs (s .setup) s) t) (isAhead s t) mostTasks (λ u l. told-ahead t u h l) in (
-              (λ x.
-                  let y = law .0 x in
-                  (sym (told-runnable t h) ∙ le-leb _ _ (y .0 .mode), omega (arith, many, y .1, Q .count))),
-              λ x. law .1 (record { task = h; mode = leb-true _ _ (told-runnable t h ∙ x .0) }, omega (arith, many, x .1, Q .count)),
-            );
-        once = P .settled .linked-once;
-        many =
-            let m = linked-many-law (s .processors) (jobs (s .setup) s) P in
-            let r = howMany-same (isRunnableJob (jobs (s .setup) s)) (isRunnable s) mostTasks told-runnable in
-            omega (arith, m, r, Q .count);
-      }
+  links-highest = sound-counting s .0 Q .highest
 
   pub one-holder : OneHolder s
   one-holder t u i k a b e =
@@ -92,10 +138,10 @@ module _ (s : State) (Q : Sound s) where
   pub chains-end : ChainsEnd s
   chains-end =
       let links = chain (s .setup) G s (Q .steady .locks) in
-      let ends : (t : ℕ) → Waiting s t → (u : ℕ) → holder s (groupOf (s .setup) (asked s t)) ≡ u → (Waiting s u → ⊥) ⊎ ((v : ℕ) × WaitsFor s u v × (Waiting s v → ⊥)) = λ t w u e.
-      subst (λ (h : ℕ). (Waiting s h → ⊥) ⊎ ((v : ℕ) × WaitsFor s h v × (Waiting s v → ⊥))) e
-      (⊎-elim (λ y. inl (λ z. omega arith))
-      (λ y. let z : Waiting s (holder s (groupOf (s .setup) (asked s t))) = omega arith in inr (_, (z, links _ z .0, refl), λ x. omega arith)) (links t w .1)) in
+      let ends : (t : ℕ) → Waiting s t → (u : ℕ) → holder s (groupOf (s .setup) (asked s t)) ≡ u → (stand s u ≡ active) ⊎ ((v : ℕ) × WaitsFor s u v × (stand s v ≡ active)) = λ t w u e.
+      subst (λ (h : ℕ). (stand s h ≡ active) ⊎ ((v : ℕ) × WaitsFor s h v × (stand s v ≡ active))) e
+      (⊎-elim (λ y. inl y)
+      (λ y. let z : Waiting s (holder s (groupOf (s .setup) (asked s t))) = omega arith in inr (_, (z, links _ z .0, refl), y .1)) (links t w .1)) in
       record {
         one = λ t w. (holder s (groupOf (s .setup) (asked s t)), (w, links t w .0, refl), λ v x. sym (x .2));
         two = λ t u x. ends t (x .0) u (x .2);

@@ -1,5 +1,6 @@
 pub mod Statements
 pub mod Branches
+pub mod Edited
 pub mod Views
 pub mod Carry
 pub mod Edits
@@ -22,3 +23,4 @@ pub mod Short
 pub mod Holding
 pub mod Theorems
 pub mod WitnessCases
+pub mod Numbers

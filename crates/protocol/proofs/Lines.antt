@@ -17,14 +17,13 @@ use Rattle.queue.proofs.Laws.{append-len, append-place, without-len, without-pl
 use Rattle.setups.specs.Naming.{groupOf}
 use Rattle.input.specs.declared.SetUp.{SetUp}
 use Rattle.protocol.specs.Words.{nobody, group, asked, len, waiter}
-use Rattle.protocol.specs.Locks.{withGroup, openOfKind, opens, queues, closes, frees, nextAt, calls, passes}
-use Rattle.protocol.specs.Events.{arrives, leaves, softens, givesWay, requestEvent, completeEvent}
+use Rattle.protocol.specs.Locks.{withGroup, openOfKind, opens, queues, closes, frees, nextAt, calls, passes, requestEdit, completeEdit}
 use Rattle.protocol.specs.declared.Group.{Group}
 use Rattle.protocol.specs.declared.State.{State}
 use Rattle.protocol.proofs.Carry.{at-one}
 use Rattle.protocol.proofs.Views.{group-at, group-off}
 use Rattle.protocol.proofs.Blanks.{tidy-group}
-use Rattle.protocol.proofs.Branches.{request-by, complete-by}
+use Rattle.protocol.proofs.Branches.{request-edit-by, complete-edit-by}
 
 -- everyone at a keeps the place; moves up by one
 abbrev pub Lines : State → State → ℕ → Type 0
@@ -113,38 +112,18 @@ module _ (s : State) (g : ℕ) (in-groups : g < length (s .groups)) where
   passes-lines : (a : ℕ) → a ≢ g → Lines s (passes g s) a
   passes-lines a d = lines-then s (calls g s) (passes g s) a (calls-lines s g in-groups a d) (passes-then a)
 
--- ---- the moves of the scheduler
-module _ (c : SetUp) (t : ℕ) (s : State) (a : ℕ) where
-  arrives-lines : Lines s (arrives c t s) a
-  unfolding arrives
-  arrives-lines = lines-same s (arrives c t s) a refl
-
-  leaves-lines : Lines s (leaves c t s) a
-  unfolding leaves
-  leaves-lines = lines-same s (leaves c t s) a refl
-
-  softens-lines : Lines s (softens c t s) a
-  unfolding softens
-  softens-lines = lines-same s (softens c t s) a refl
-
-  gives-lines : Lines s (givesWay c t s) a
-  unfolding givesWay
-  gives-lines = lines-same s (givesWay c t s) a refl
-
 module _ (c : SetUp) (t r : ℕ) (s : State) (h : groupOf c r < length (s .groups)) (tidy : (a : ℕ) → Tidy (group s a .queue)) where
   abbrev g : ℕ
   g = groupOf c r
 
   -- ---- a request moves nobody
-  pub request-lines : (a : ℕ) → Lines s (requestEvent c t r s) a
-  request-lines a =
-      let queue = queues-lines s g h (tidy g) c t r a in
-      request-by c t r s (λ x. Lines s x a) (λ _. opens-lines s g h t r a) (λ _ _ _. queue) (λ _ _ _. lines-then s (queues c t r g s) _ a queue (leaves-lines c t (queues c t r g s) a))
+  pub request-lines : (a : ℕ) → Lines s (requestEdit c t r s) a
+  request-lines a = request-edit-by c t r s (λ x. Lines s x a) (λ _. opens-lines s g h t r a) (λ _ _. queues-lines s g h (tidy g) c t r a)
 
   -- ---- a completion
-  pub inner-lines : openOfKind c (closes t s) t r ≡ true → (a : ℕ) → Lines s (completeEvent c t r s) a
+  pub inner-lines : openOfKind c (closes t s) t r ≡ true → (a : ℕ) → Lines s (completeEdit c t r s) a
   unfolding closes
-  inner-lines e a = complete-by c t r s (λ x. Lines s x a) (λ _. lines-same s (closes t s) a refl) (λ n. never n e) (λ n. never n e) (λ n. never n e) (λ n. never n e)
+  inner-lines e a = complete-edit-by c t r s (λ x. Lines s x a) (λ _. lines-same s (closes t s) a refl) (λ n. never n e) (λ n. never n e)
 
   f : State
   f = frees g (closes t s)
@@ -161,34 +140,11 @@ module _ (c : SetUp) (t r : ℕ) (s : State) (h : groupOf c r < length (s .group
   unfolding f frees closes
   f-tidy = tidy-group (closes t s) g nobody (group s g .queue) h tidy (tidy g) g
 
-  b : State
-  b = givesWay c t f
-
-  b-in : g < length (b .groups)
-  unfolding f b givesWay
-  b-in = freed-in
-
-  b-lines : (a : ℕ) → Lines s b a
-  unfolding b
-  b-lines a = lines-then s f b a (f-lines a) (gives-lines c t f a)
-
-  b-tidy : Tidy (group b g .queue)
-  unfolding b givesWay
-  b-tidy = f-tidy
-
   -- outermost: all others stay, and at the group each moves up by one
-  pub outer-lines : openOfKind c (closes t s) t r ≡ false → (a : ℕ) → a ≢ groupOf c r → Lines s (completeEvent c t r s) a
-  unfolding f b
-  outer-lines e a d = complete-by c t r s (λ x. Lines s x a) (never e)
-      (λ _ _ _. lines-then s f _ a (f-lines a) (softens-lines c t f a))
-      (λ _ _ _. lines-then s f _ a (f-lines a) (lines-then f (passes g f) _ a (passes-lines f g freed-in a d) (softens-lines c t (passes g f) a)))
-      (λ _ _ _. b-lines a)
-      (λ _ _ _. lines-then s b _ a (b-lines a) (lines-then b (passes g b) _ a (passes-lines b g b-in a d) (arrives-lines c (nextAt s g) (passes g b) a)))
+  pub outer-lines : openOfKind c (closes t s) t r ≡ false → (a : ℕ) → a ≢ groupOf c r → Lines s (completeEdit c t r s) a
+  unfolding f
+  outer-lines e a d = complete-edit-by c t r s (λ x. Lines s x a) (never e) (λ _ _. f-lines a) (λ _ _. lines-then s f (passes g f) a (f-lines a) (passes-lines f g freed-in a d))
 
-  pub outer-ups : openOfKind c (closes t s) t r ≡ false → Ups s (completeEvent c t r s) (groupOf c r)
-  unfolding f b
-  outer-ups e = complete-by c t r s (λ x. Ups s x g) (never e)
-      (λ _ _ z i l. absurd (omega arith))
-      (λ _ _ _. lines-up s f _ g (f-lines g) (up-lines f (passes g f) _ g (passes-ups f g freed-in f-tidy) (softens-lines c t (passes g f) g)))
-      (λ _ _ z i l. absurd (omega arith))
-      (λ _ _ _. lines-up s b _ g (b-lines g) (up-lines b (passes g b) _ g (passes-ups b g b-in b-tidy) (arrives-lines c (nextAt s g) (passes g b) g)))
+  pub outer-ups : openOfKind c (closes t s) t r ≡ false → Ups s (completeEdit c t r s) (groupOf c r)
+  unfolding f
+  outer-ups e = complete-edit-by c t r s (λ x. Ups s x g) (never e) (λ _ z i l. absurd (omega arith)) (λ _ _. lines-up s f (passes g f) g (f-lines g) (passes-ups f g freed-in f-tidy))

@@ -13,8 +13,7 @@ use Rattle.input.specs.Words.{kind}
 use Rattle.setups.specs.Naming.{groupOf}
 use Rattle.input.specs.declared.SetUp.{SetUp}
 use Rattle.protocol.specs.Words.{nobody, group, asked, holder, len, waiter}
-use Rattle.protocol.specs.Locks.{standingAs, opening, onTask, withGroup, lockOf, openOfKind, opens, queues, closes, frees, nextAt, calls, passes}
-use Rattle.protocol.specs.Events.{arrives, leaves, softens, givesWay, requestEvent, completeEvent}
+use Rattle.protocol.specs.Locks.{standingAs, opening, onTask, withGroup, lockOf, openOfKind, opens, queues, closes, frees, nextAt, calls, passes, requestEdit, completeEdit}
 use Rattle.protocol.specs.Demands.{Before}
 use Rattle.protocol.specs.declared.Standing.the-variants.{Active, Waiting}
 use Rattle.protocol.specs.declared.Group.{Group}
@@ -23,7 +22,7 @@ use Rattle.protocol.proofs.Statements.{Steady, Asks, SameGroup}
 use Rattle.protocol.proofs.Carry.{at-one}
 use Rattle.protocol.proofs.Views.{group-at, group-off}
 use Rattle.protocol.proofs.Steps.{kind-some}
-use Rattle.protocol.proofs.Branches.{request-by, complete-by}
+use Rattle.protocol.proofs.Branches.{request-edit-by, complete-edit-by}
 use Rattle.protocol.proofs.Lines.{calls-in, frees-lines, freed-in, request-lines, inner-lines, outer-lines, outer-ups}
 
 -- ---- who holds
@@ -69,26 +68,25 @@ module _ (c : SetUp) (t r : ℕ) (s : State) (h : groupOf c r < length (s .group
 
   -- ---- a request takes no group from its holder
   module _ (S : Steady c s) (A : Asks c s t r) where
-    request-held : (a : ℕ) → holder s a ≢ nobody → holder (requestEvent c t r s) a ≡ holder s a
-    unfolding leaves holder
-    request-held a d = request-by c t r s (λ x. holder x a ≡ holder s a)
+    request-held : (a : ℕ) → holder s a ≢ nobody → holder (requestEdit c t r s) a ≡ holder s a
+    unfolding holder
+    request-held a d = request-edit-by c t r s (λ x. holder x a ≡ holder s a)
         (⊎-elim
         (λ e.
         let i = kind-some c s t r e in
         let mine : holder s g ≡ t = ap (holder s) (sym (A .within (i .0) (i .1) (i .2))) ∙ S .locks .tasks t .opened .held (i .0) (i .1) .1 in
         at-one (λ a. holder (opens t r g s) a ≡ holder s a) g (opens-at s g h t r ∙ sym mine) (opens-off s g h t r) a)
         (λ z. opens-off s g h t r a (λ y. d (ap (holder s) y ∙ z))))
-        (λ _ _ _. queues-held s g h c t r a)
-        (λ _ _ _. queues-held s g h c t r a)
+        (λ _ _. queues-held s g h c t r a)
 
-    pub request-before : (a w n : ℕ) → w ≢ nobody → Before s a w n → Before (requestEvent c t r s) a w n
+    pub request-before : (a w n : ℕ) → w ≢ nobody → Before s a w n → Before (requestEdit c t r s) a w n
     request-before a w zero d e = request-held a (λ z. d (sym e ∙ z)) ∙ e
     request-before a w (suc n) d x = let y = request-lines c t r s h tidy a n (x .0) in (y .0, y .1 ∙ x .1)
 
   -- ---- a completion
-  inner-held : openOfKind c (closes t s) t r ≡ true → (a : ℕ) → holder (completeEvent c t r s) a ≡ holder s a
+  inner-held : openOfKind c (closes t s) t r ≡ true → (a : ℕ) → holder (completeEdit c t r s) a ≡ holder s a
   unfolding closes holder
-  inner-held e a = complete-by c t r s (λ x. holder x a ≡ holder s a) (λ _. refl) (λ n. never n e) (λ n. never n e) (λ n. never n e) (λ n. never n e)
+  inner-held e a = complete-edit-by c t r s (λ x. holder x a ≡ holder s a) (λ _. refl) (λ n. never n e) (λ n. never n e)
 
   abbrev f : State
   f = frees g (closes t s)
@@ -104,32 +102,28 @@ module _ (c : SetUp) (t r : ℕ) (s : State) (h : groupOf c r < length (s .group
   f-next d = frees-lines s g h t g 0 (omega arith) .1
 
   -- the others keep their groups
-  outer-held : openOfKind c (closes t s) t r ≡ false → (a : ℕ) → a ≢ g → holder (completeEvent c t r s) a ≡ holder s a
-  unfolding softens givesWay arrives holder
-  outer-held e a d = complete-by c t r s (λ x. holder x a ≡ holder s a) (never e)
-      (λ _ _ _. f-off a d)
-      (λ _ _ _. passes-off f g f-in a d ∙ f-off a d)
-      (λ _ _ _. f-off a d)
-      (λ _ _ _. passes-off (givesWay c t f) g f-in a d ∙ f-off a d)
+  outer-held : openOfKind c (closes t s) t r ≡ false → (a : ℕ) → a ≢ g → holder (completeEdit c t r s) a ≡ holder s a
+  unfolding holder
+  outer-held e a d = complete-edit-by c t r s (λ x. holder x a ≡ holder s a) (never e)
+      (λ _ _. f-off a d)
+      (λ _ _. passes-off f g f-in a d ∙ f-off a d)
 
   -- the first in line holds the group
-  outer-first : openOfKind c (closes t s) t r ≡ false → len s g ≢ 0 → holder (completeEvent c t r s) g ≡ nextAt s g
-  unfolding softens givesWay arrives holder waiter
-  outer-first e d = complete-by c t r s (λ x. holder x g ≡ nextAt s g) (never e)
-      (λ _ _ z. absurd (d z))
-      (λ _ _ _. passes-at f g f-in ∙ f-next d)
-      (λ _ _ z. absurd (d z))
-      (λ _ _ _. passes-at (givesWay c t f) g f-in ∙ f-next d)
+  outer-first : openOfKind c (closes t s) t r ≡ false → len s g ≢ 0 → holder (completeEdit c t r s) g ≡ nextAt s g
+  unfolding holder waiter
+  outer-first e d = complete-edit-by c t r s (λ x. holder x g ≡ nextAt s g) (never e)
+      (λ _ z. absurd (d z))
+      (λ _ _. passes-at f g f-in ∙ f-next d)
 
-  pub inner-before : openOfKind c (closes t s) t r ≡ true → (a w n : ℕ) → Before s a w n → Before (completeEvent c t r s) a w n
+  pub inner-before : openOfKind c (closes t s) t r ≡ true → (a w n : ℕ) → Before s a w n → Before (completeEdit c t r s) a w n
   inner-before e a w zero x = inner-held e a ∙ x
   inner-before e a w (suc n) x = let y = inner-lines c t r s h tidy e a n (x .0) in (y .0, y .1 ∙ x .1)
 
-  pub outer-before : openOfKind c (closes t s) t r ≡ false → (a w n : ℕ) → a ≢ groupOf c r → Before s a w n → Before (completeEvent c t r s) a w n
+  pub outer-before : openOfKind c (closes t s) t r ≡ false → (a w n : ℕ) → a ≢ groupOf c r → Before s a w n → Before (completeEdit c t r s) a w n
   outer-before e a w zero d x = outer-held e a d ∙ x
   outer-before e a w (suc n) d x = let y = outer-lines c t r s h tidy e a d n (x .0) in (y .0, y .1 ∙ x .1)
 
-  pub outer-up : openOfKind c (closes t s) t r ≡ false → (w n : ℕ) → Before s (groupOf c r) w (suc n) → Before (completeEvent c t r s) (groupOf c r) w n
+  pub outer-up : openOfKind c (closes t s) t r ≡ false → (w n : ℕ) → Before s (groupOf c r) w (suc n) → Before (completeEdit c t r s) (groupOf c r) w n
   outer-up e w zero x = outer-first e (λ z. omega (arith, x .0)) ∙ x .1
   outer-up e w (suc n) x = let y = outer-ups c t r s h tidy e n (x .0) in (y .0, y .1 ∙ x .1)
 

@@ -1,4 +1,4 @@
--- Requests, completions and moves leave set-up, clock and dates alone, and who has a job. Assumes nothing.
+-- Requests and completions leave set-up, clock and dates alone, and who has a job. Assumes nothing.
 use Prim.Native.Nat.{ℕ, zero, suc, _-_, _≤_}
 use mathlib.Core.Path.{_≡_, refl, sym, _∙_}
 use mathlib.Core.Bool.{false}
@@ -7,19 +7,16 @@ use native.Mathlib.Omega.{arith}
 use borrow.Author.Tests.{ne-eqb}
 use Rattle.search.specs.Words.{_is_}
 use Rattle.queue.specs.Waiting.{appended, withoutFirst}
-use Rattle.scheduler.proofs.Laws.{arriving-count, leaving-count, softening-count, giving-way-count}
 use Rattle.input.specs.Words.{kind}
 use Rattle.setups.specs.Naming.{groupOf}
 use Rattle.input.specs.declared.SetUp.{SetUp}
 use Rattle.protocol.specs.Words.{nobody, absent, spinning, standingNo, group, stand, asked, len}
-use Rattle.protocol.specs.Ranks.{jobs}
-use Rattle.protocol.specs.Locks.{standingAs, opening, closing, onTask, lockOf, opens, queues, closes, frees, nextAt, calls, passes}
-use Rattle.protocol.specs.Events.{arrives, leaves, softens, givesWay, requestEvent, completeEvent}
+use Rattle.protocol.specs.Locks.{standingAs, opening, closing, onTask, lockOf, opens, queues, closes, frees, nextAt, calls, passes, requestEdit, completeEdit}
 use Rattle.protocol.specs.declared.Standing.the-variants.{Active, Waiting}
 use Rattle.protocol.specs.declared.State.{State}
 use Rattle.protocol.proofs.Statements.{Grouped, Steady, Ends}
-use Rattle.protocol.proofs.Dates.{Quiet, quiet-then, quiet-task, quiet-group, quiet-with}
-use Rattle.protocol.proofs.Branches.{request-by, complete-by}
+use Rattle.protocol.proofs.Dates.{Quiet, quiet-then, quiet-task, quiet-group}
+use Rattle.protocol.proofs.Branches.{request-edit-by, complete-edit-by}
 use Rattle.protocol.proofs.Steps.{kind-none, first-stands}
 
 -- ---- the edits
@@ -57,30 +54,9 @@ passes-quiet g s h =
     (quiet-group (onTask u f s) g (group s g .holder) (withoutFirst (group s g .queue))))
     (opens-quiet u (asked s u) g (calls g s))
 
--- ---- the moves
-module _ (c : SetUp) (t : ℕ) (s : State) where
-  pub arrives-quiet : Quiet s (arrives c t s)
-  unfolding arrives
-  arrives-quiet = quiet-with s _ (arriving-count _ _ _)
-
-  pub leaves-quiet : Quiet s (leaves c t s)
-  unfolding leaves
-  leaves-quiet = quiet-with s _ (leaving-count _ _ _)
-
-  softens-quiet : Quiet s (softens c t s)
-  unfolding softens
-  softens-quiet = quiet-with s _ (softening-count _ (jobs c s) _)
-
-  gives-way-quiet : Quiet s (givesWay c t s)
-  unfolding givesWay
-  gives-way-quiet = quiet-with s _ (giving-way-count _ _ _)
-
 -- ---- a request
-pub request-quiet : (c : SetUp) (t r : ℕ) (s : State) → stand s t ≢ absent → Quiet s (requestEvent c t r s)
-request-quiet c t r s h =
-    let q = queues c t r (groupOf c r) s in
-    let waits = queues-quiet c t r (groupOf c r) s h in
-    request-by c t r s (Quiet s) (λ _. opens-quiet t r (groupOf c r) s) (λ _ _ _. waits) (λ _ _ _. quiet-then s q _ waits (leaves-quiet c t q))
+pub request-quiet : (c : SetUp) (t r : ℕ) (s : State) → stand s t ≢ absent → Quiet s (requestEdit c t r s)
+request-quiet c t r s h = request-edit-by c t r s (Quiet s) (λ _. opens-quiet t r (groupOf c r) s) (λ _ _. queues-quiet c t r (groupOf c r) s h)
 
 -- ---- a completion
 module _ (c : SetUp) (G : Grouped c) (s : State) (S : Steady c s) (t r : ℕ) (A : Ends s t r) where
@@ -91,18 +67,9 @@ module _ (c : SetUp) (G : Grouped c) (s : State) (S : Steady c s) (t r : ℕ) (A
   unfolding f
   freed = quiet-then s (closes t s) f (closes-quiet t s) (frees-quiet (groupOf c r) (closes t s))
 
-  pub complete-quiet : Quiet s (completeEvent c t r s)
-  unfolding f givesWay
+  pub complete-quiet : Quiet s (completeEdit c t r s)
+  unfolding f
   complete-quiet =
       let g = groupOf c r in
-      let b = givesWay c t f in
-      let gave = quiet-then s f b freed (gives-way-quiet c t f) in
-      complete-by c t r s (Quiet s) (λ _. closes-quiet t s)
-      (λ _ _ _. quiet-then s f _ freed (softens-quiet c t f))
-      (λ e _ z. quiet-then s (passes g f) _
-      (quiet-then s f _ freed (passes-quiet g f (first-stands c G s S t r A (kind-none c (closes t s) t r e) (len s g - 1) (omega arith) (f .processors))))
-      (softens-quiet c t (passes g f)))
-      (λ _ _ _. gave)
-      (λ e _ z. quiet-then s (passes g b) _
-      (quiet-then s b _ gave (passes-quiet g b (first-stands c G s S t r A (kind-none c (closes t s) t r e) (len s g - 1) (omega arith) (b .processors))))
-      (arrives-quiet c (nextAt s g) (passes g b)))
+      complete-edit-by c t r s (Quiet s) (λ _. closes-quiet t s) (λ _ _. freed)
+      (λ e z. quiet-then s f (passes g f) freed (passes-quiet g f (first-stands c G s S t r A (kind-none c (closes t s) t r e) (len s g - 1) (omega arith))))

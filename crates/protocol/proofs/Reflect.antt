@@ -140,8 +140,8 @@ sound-of-test s Z e =
           tasks = by-task c s Z (TaskOk c s) (λ t l. task-of-test c s Z tidy t l (requests t l) (waits t l) (empties t l)) (no-task-locks c s);
           groups = by-group c s Z (GroupOk c s nobody) (λ g l. group-of-test c s Z g (groups g l)) (λ g n. no-group-locks c s g n nobody);
         };
-        placed = placed-of-test (s .processors) (jobs c s) (Z .processors) (h .0 .0 .0 .0 .1);
       };
+      placed = placed-of-test (s .processors) (jobs c s) (Z .processors) (h .0 .0 .0 .0 .1);
     }
 
 -- ---- and back
@@ -191,7 +191,7 @@ test-of-sound s Q =
       (
         (
           (
-            (((((Q .setup, Q .clean), (T .start, T .clock)), λ t _. test-of-times c s t (T .tasks t)), Q .count), test-of-placed (s .processors) (jobs c s) (S .placed)),
+            (((((Q .setup, Q .clean), (T .start, T .clock)), λ t _. test-of-times c s t (T .tasks t)), Q .count), test-of-placed (s .processors) (jobs c s) (Q .placed)),
             λ t _. test-of-requests c s t (L .tasks t),
           ),
           λ t l. test-of-waits c s t l B (L .tasks t),

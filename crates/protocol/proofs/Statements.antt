@@ -8,7 +8,7 @@ use lib.ListN.{length}
 use Rattle.queue.specs.Tidy.{Tidy}
 use Rattle.processors.specs.Limits.{processors}
 use Rattle.processors.specs.Words.{runOf}
-use Rattle.scheduler.specs.Placed.{Placed}
+use Rattle.scheduler.specs.Placed.{Settled, Placed}
 use Rattle.input.specs.Limits.{mostTasks, mostResources, long}
 use Rattle.input.specs.Words.{period, kind}
 use Rattle.setups.specs.Refusals.{setUpRefusal}
@@ -17,6 +17,7 @@ use Rattle.setups.specs.Clearing.{isClear}
 use Rattle.input.specs.declared.SetUp.{SetUp}
 use Rattle.protocol.specs.Words.{mostRequests, totalCount, nobody, lastClock, sum, absent, active, spinning, suspended, task, group, stand, asked, deadline, depth, request, holder, len, waiter}
 use Rattle.protocol.specs.Ranks.{jobs}
+use Rattle.protocol.specs.Demands.{LinksHighest}
 use Rattle.protocol.specs.declared.State.{State}
 
 -- ---- the set-up: what an accepted set-up's groups are
@@ -91,12 +92,11 @@ pub record Blank (s : State) : Type 0 where
   pub requests : (t i : ℕ) → depth s t ≤ i → request s t i ≡ nobody
   pub queues : (g : ℕ) → Tidy (group s g .queue)
 
--- ---- what holds of tasks, groups and processors
+-- ---- what holds of tasks and groups, whatever the scheduler
 pub record Steady (c : SetUp) (s : State) : Type 0 where
   pub sized : Sized s
   pub blank : Blank s
   pub locks : Locks c s
-  pub placed : Placed (s .processors) (jobs c s)
 
 pub record Sound (s : State) : Type 0 where
   pub setup : setUpRefusal (s .setup) ≡ 0
@@ -104,6 +104,19 @@ pub record Sound (s : State) : Type 0 where
   pub count : s .processors .count ≡ s .setup .processors
   pub times : Times s
   pub steady : Steady (s .setup) s
+  pub placed : Placed (s .processors) (jobs (s .setup) s)
+
+-- the same with 'linked jobs as demand 3 says': by counting
+pub record SoundCounting (s : State) : Type 0 where
+  pub setup : setUpRefusal (s .setup) ≡ 0
+  pub clean : isClear (s .setup) ≡ true
+  pub count : s .processors .count ≡ s .setup .processors
+  pub times : Times s
+  pub sized : Sized s
+  pub blank : Blank s
+  pub locks : Locks (s .setup) s
+  pub settled : Settled (s .processors) (jobs (s .setup) s)
+  pub highest : LinksHighest s (s .setup .processors)
 
 -- ---- what an accepted event has shown: t runs, and is not spinning (18 to 20)
 pub record Acts (s : State) (t : ℕ) : Type 0 where

@@ -1,5 +1,5 @@
 -- A job that waits before and after an event waits for the same all along: its standing is changed only by being called. Assumes nothing.
-use Prim.Native.Nat.{ℕ, _+_, _≤_}
+use Prim.Native.Nat.{ℕ, _≤_}
 use mathlib.Core.Path.{_≡_, refl, ap, _∙_}
 use mathlib.Core.Logic.{_≢_, _⊎_, inl, inr, ⊎-elim}
 use mathlib.Core.List.{List}
@@ -7,22 +7,23 @@ use native.Mathlib.Omega.{arith}
 use native.Mathlib.Decide.{decLt}
 use lib.ListN.{length, getD}
 use lib.Seq.{set-out}
-use Rattle.input.specs.Words.{kind, period}
+use Rattle.input.specs.Words.{kind}
 use Rattle.setups.specs.Naming.{groupOf}
 use Rattle.input.specs.declared.SetUp.{SetUp}
 use Rattle.input.specs.declared.Event.{Event}
 use Rattle.protocol.specs.Words.{active, spinning, noTask, standingNo, askedOf, task, stand, asked}
 use Rattle.protocol.specs.Refusals.{stepOf, judge}
-use Rattle.protocol.specs.Locks.{standingAs, opening, closing, arriving, departing, onTask, lockOf, opens, queues, closes, frees, nextAt, calls, passes}
-use Rattle.protocol.specs.Events.{arrives, leaves, softens, givesWay, arriveEvent, finishEvent, requestEvent, completeEvent, charged, step}
+use Rattle.protocol.specs.Locks.{standingAs, opening, closing, arriving, departing, onTask, lockOf, opens, queues, closes, frees, nextAt, calls, passes, requestEdit, completeEdit, edited}
+use Rattle.protocol.specs.Events.{charged}
 use Rattle.protocol.specs.declared.Standing.the-variants.{Active, Waiting}
 use Rattle.protocol.specs.declared.Task.{Task}
 use Rattle.protocol.specs.declared.State.{State}
 use Rattle.protocol.proofs.Statements.{Sound}
 use Rattle.protocol.proofs.Carry.{at-one}
 use Rattle.protocol.proofs.Views.{same-task, task-at, task-off}
-use Rattle.protocol.proofs.Branches.{request-by, complete-by}
-use Rattle.protocol.proofs.Step.{same-of, asks-of, step-by}
+use Rattle.protocol.proofs.Branches.{request-edit-by, complete-edit-by}
+use Rattle.protocol.proofs.Edited.{Does, by-edit}
+use Rattle.protocol.proofs.Step.{same-of, asks-of, edited-by}
 
 -- w stands as it did, and asks for the same
 abbrev pub Same : State → State → ℕ → Type 0
@@ -72,43 +73,35 @@ unfolding passes
 passes-stays s g w = stays-then s (calls g s) _ w (calls-stays s g w) (opens-stays (calls g s) g w (nextAt s g) (asked s (nextAt s g)))
 
 -- ---- the events
-module _ (c : SetUp) (t : ℕ) (s : State) (w : ℕ) where
-  arrive-stays : Stays s (arriveEvent c t s) w
-  unfolding arriveEvent arrives stand asked
-  arrive-stays = stays-task s t (arriving (s .clock) (s .clock + period c t)) (inl (omega arith)) w
+module _ (c : SetUp) (t r : ℕ) (s : State) (w : ℕ) where
+  abbrev g : ℕ
+  g = groupOf c r
 
-  finish-stays : Stays s (finishEvent c t s) w
-  unfolding finishEvent leaves stand asked
-  finish-stays = stays-task s t departing (inl (omega arith)) w
+  request-stays : w ≢ t → Stays s (requestEdit c t r s) w
+  request-stays d = request-edit-by c t r s (λ x. Stays s x w) (λ _. opens-stays s g w t r) (λ _ _. queues-stays s g w c t r d)
 
-  module _ (r : ℕ) where
-    abbrev g : ℕ
-    g = groupOf c r
+  complete-stays : Stays s (completeEdit c t r s) w
+  unfolding frees closes stand asked
+  complete-stays =
+      let f = frees g (closes t s) in
+      let freed = freed-stays s g w t in
+      complete-edit-by c t r s (λ x. Stays s x w) (λ _. freed) (λ _ _. freed) (λ _ _. stays-then s f (passes g f) w freed (passes-stays f g w))
 
-    request-stays : w ≢ t → Stays s (requestEvent c t r s) w
-    unfolding leaves stand asked
-    request-stays d = request-by c t r s (λ x. Stays s x w) (λ _. opens-stays s g w t r) (λ _ _ _. queues-stays s g w c t r d) (λ _ _ _. queues-stays s g w c t r d)
-
-    complete-stays : Stays s (completeEvent c t r s) w
-    unfolding softens givesWay arrives frees closes stand asked
-    complete-stays =
-        let f = frees g (closes t s) in
-        let freed = freed-stays s g w t in
-        complete-by c t r s (λ x. Stays s x w) (λ _. freed)
-        (λ _ _ _. freed) (λ _ _ _. stays-then s f (passes g f) w freed (passes-stays f g w))
-        (λ _ _ _. freed) (λ _ _ _. stays-then s f (passes g (givesWay c t f)) w freed (passes-stays (givesWay c t f) g w))
-
-pub step-stays : (s : State) (e : Event) → Sound s → judge s e ≡ 0 → (w : ℕ) → spinning ≤ stand s w → spinning ≤ stand (step s e .state) w → Same s (step s e .state) w
-step-stays s e Q ok w waits =
+edited-stays : (s : State) (e : Event) → Sound s → judge s e ≡ 0 → (w : ℕ) → spinning ≤ stand s w → Stays s (edited (s .setup) e (charged (stepOf s e) s)) w
+edited-stays s e Q ok w waits =
     let s₁ = charged (stepOf s e) s in
     let c = s .setup in
     let t = e .task in
     let r = e .resource in
     let same = same-of s e Q ok in
-    let then : (s′ : State) → Stays s₁ s′ w → Stays s s′ w = λ s′. stays-then s s₁ s′ w (λ _. (same w .stood, same w .wants)) in
-    step-by s e Q ok (λ x. Stays s x w)
-    (λ _. then _ (arrive-stays c t s₁ w))
-    (λ _. then _ (finish-stays c t s₁ w))
-    (λ k. then _ (request-stays c t s₁ w r (λ d. omega (arith, asks-of s e Q ok k .acts .act, same t .stood, ap (stand s) d))))
-    (λ _. then _ (complete-stays c t s₁ w r))
+    let then : (x : State) → Stays s₁ x w → Stays s x w = λ x. stays-then s s₁ x w (λ _. (same w .stood, same w .wants)) in
+    edited-by s e Q ok (λ x. Stays s x w)
+    (λ _. then _ (stays-task s₁ t (arriving (s₁ .clock) _) (inl (omega arith)) w))
+    (λ _. then _ (stays-task s₁ t departing (inl (omega arith)) w))
+    (λ k. then _ (request-stays c t r s₁ w (λ d. omega (arith, asks-of s e Q ok k .acts .act, same t .stood, ap (stand s) d))))
+    (λ _. then _ (complete-stays c t r s₁ w))
     (λ _. then s₁ (λ _. (refl, refl)))
+
+pub step-stays : (s : State) (e : Event) → Sound s → judge s e ≡ 0 → (s′ : State) → Does s e s′ → (w : ℕ) → spinning ≤ stand s w → spinning ≤ stand s′ w → Same s s′ w
+unfolding stand asked
+step-stays s e Q ok s′ D w waits = by-edit (λ x. Stays s x w) s e s′ D (λ p. edited-stays s e Q ok w waits)

@@ -2,7 +2,7 @@
 use Prim.Native.Nat.{ℕ, zero, suc, _+_, _-_, _<_, _≤_}
 use mathlib.Core.Path.{_≡_, refl, sym, ap, subst, _∙_}
 use mathlib.Core.Bool.{Bool, true, false}
-use mathlib.Core.List.{List, [], _∷_, _++_}
+use mathlib.Core.List.{List, [], _∷_, _++_, map-append}
 use mathlib.Core.Logic.{_≢_, ⊎-elim}
 use native.Mathlib.Omega.{arith}
 use native.Mathlib.Decide.{ℕ-discrete}
@@ -14,9 +14,10 @@ use Rattle.search.proofs.Tests.{tests}
 use Rattle.search.proofs.Refusals.{none-iff, NoneApplies}
 use Rattle.processors.specs.Limits.{processors}
 use Rattle.processors.specs.Words.{linkOf, runOf}
-use Rattle.scheduler.proofs.Laws.{running-runnable}
+use Rattle.scheduler.specs.Placed.{Served}
+use Rattle.scheduler.proofs.Laws.{served-law, arriving-count, leaving-count, softening-count, giving-way-count}
 use Rattle.input.specs.Limits.{mostTasks, short, long}
-use Rattle.input.specs.Words.{period, kind}
+use Rattle.input.specs.Words.{kind}
 use Rattle.setups.specs.Refusals.{setUpRefusal}
 use Rattle.setups.specs.Naming.{groupOf}
 use Rattle.setups.specs.Clearing.{isClear}
@@ -28,16 +29,18 @@ use Rattle.protocol.specs.Words.{mostRequests, lastClock, absent, spinni
 use Rattle.protocol.specs.Ranks.{jobs}
 use Rattle.protocol.specs.Situations.{situation, hindrance}
 use Rattle.protocol.specs.Refusals.{stepOf, misplaced, eventRows, judge}
-use Rattle.protocol.specs.Locks.{arriving, departing, onTask}
-use Rattle.protocol.specs.Events.{arriveEvent, finishEvent, requestEvent, completeEvent, charged, act, step, run}
+use Rattle.protocol.specs.Locks.{opens, queues, closes, frees, nextAt, calls, passes, arriveEdit, finishEdit, requestEdit, completeEdit, edited}
+use Rattle.protocol.specs.Events.{withProcessors, Prefers, cold, arrives, leaves, softens, givesWay, arriveEvent, finishEvent, requestEvent, completeEvent, charged, act, Move, moved, stepBy, runBy, step, plain, run}
 use Rattle.protocol.specs.declared.Situation.the-variants.{NoJob, Running, Spinning, LinkedOnly, Ready, Suspended}
 use Rattle.protocol.specs.declared.State.{State}
 use Rattle.protocol.proofs.Statements.{Grouped, Times, Steady, Sound, Acts, Asks, Ends, SameTask}
 use Rattle.protocol.proofs.Begin.{accepted-grouped}
+use Rattle.protocol.proofs.Branches.{kind-by, request-by, complete-by}
+use Rattle.protocol.proofs.Edited.{Does, step-does, by-edit}
 use Rattle.protocol.proofs.Told.{mode-runs}
-use Rattle.protocol.proofs.Steps.{arrive-steady, finish-steady, request-steady, complete-steady}
-use Rattle.protocol.proofs.Dates.{Quiet, quiet-times, same-aged, charged-steady, charged-times, comes-times, goes-times}
-use Rattle.protocol.proofs.Quiets.{arrives-quiet, leaves-quiet, request-quiet, complete-quiet}
+use Rattle.protocol.proofs.Steps.{with-steady, Rests, arrive-steady, arrive-placed, finish-steady, finish-placed, request-steady, request-placed, complete-steady, complete-placed}
+use Rattle.protocol.proofs.Dates.{Quiet, quiet-with, quiet-times, same-aged, charged-steady, charged-placed, charged-times, comes-times, goes-times}
+use Rattle.protocol.proofs.Quiets.{request-quiet, complete-quiet}
 
 -- ---- which fields a kind uses
 uses-task : (k : ℕ) → (arrival ≤ k) × (k ≤ completion) → fieldsOf k .task ≡ true
@@ -72,6 +75,10 @@ unhindered false false false f false n e x y z = absurd (y (sym e))
 -- s′ is sound, with the set-up of s
 abbrev Keeps : State → State → Type 0
 Keeps s s′ = Sound s′ × (s′ .setup ≡ s .setup)
+
+-- whatever the scheduler, this is what the locks have of it
+pub sound-served : (s : State) → Sound s → Served (s .processors) (jobs (s .setup) s)
+sound-served s Q = served-law (s .processors) (jobs (s .setup) s) (Q .placed)
 
 -- ---- what an accepted event's rows say
 module _ (s : State) (e : Event) (Q : Sound s) (ok : judge s e ≡ 0) where
@@ -150,7 +157,7 @@ module _ (s : State) (e : Event) (Q : Sound s) (ok : judge s e ≡ 0) where
   grouped = accepted-grouped c (Q .setup)
 
   pub steady-of : Steady (s .setup) (charged (stepOf s e) s)
-  steady-of = charged-steady c grouped s (stepOf s e) (Q .steady)
+  steady-of = charged-steady c s (stepOf s e) (Q .steady)
 
   times-of : Times s₁
   times-of = charged-times s (stepOf s e) (Q .steady .sized) (λ u. Q .steady .locks .tasks u .inside) room (Q .times)
@@ -166,7 +173,7 @@ module _ (s : State) (e : Event) (Q : Sound s) (ok : judge s e ≡ 0) where
       let z = unhindered (stand s t is absent) (stand s t is suspended) (ltb (runOf p t) processors) (stand s t is spinning) (ltb (linkOf p t) processors) _ refl (row18 k) (row19 k) (row20 k) in
       let on : runOf p t < processors = ltb-true _ _ (z .1) in
       let t-in : t < mostTasks = omega (arith, row11 (omega arith), grouped .few-tasks) in
-      let m = mode-runs c s t (running-runnable p (jobs c s) (Q .steady .placed) t t-in on .mode) in
+      let m = mode-runs c s t (sound-served s Q .runnable t t-in on .mode) in
       record { on = on; act = same-of t .stood ∙ ⊎-elim (λ y. y) (λ y. absurd (eqb-false _ _ (z .2) y)) (m .1) }
 
   pub asks-of : e .kind ≡ asking → Asks (s .setup) (charged (stepOf s e) s) (e .task) (e .resource)
@@ -188,91 +195,162 @@ module _ (s : State) (e : Event) (Q : Sound s) (ok : judge s e ≡ 0) where
       record { acts = acts-of (omega arith); left = depth s t - 1; some = omega (arith, same .deep, row25 k .0); newest = same .requested _ ∙ row25 k .1 }
 
   -- ---- kind by kind
-  pub step-by : (P : State → Type 0)
-      → (e .kind ≡ arrival → P (arriveEvent (s .setup) (e .task) (charged (stepOf s e) s)))
+  pub step-by : (pick : Prefers) (P : State → Type 0)
+      → (e .kind ≡ arrival → P (arriveEvent pick (s .setup) (e .task) (charged (stepOf s e) s)))
       → (e .kind ≡ finish → P (finishEvent (s .setup) (e .task) (charged (stepOf s e) s)))
       → (e .kind ≡ asking → P (requestEvent (s .setup) (e .task) (e .resource) (charged (stepOf s e) s)))
-      → (e .kind ≡ completion → P (completeEvent (s .setup) (e .task) (e .resource) (charged (stepOf s e) s)))
+      → (e .kind ≡ completion → P (completeEvent pick (s .setup) (e .task) (e .resource) (charged (stepOf s e) s)))
       → (e .kind ≡ passing → P (charged (stepOf s e) s))
-      → P (step s e .state)
-  unfolding step act
-  step-by P comes goes asks ends passes = rw (eq-eqb (judge s e) 0 ok) (
-      elim (ℕ-discrete (e .kind) arrival) [
-        | yes k ↦ rw (eq-eqb _ _ k) (comes k)
-        | no a ↦ rw (ne-eqb _ _ a) (
-            elim (ℕ-discrete (e .kind) finish) [
-              | yes k ↦ rw (eq-eqb _ _ k) (goes k)
-              | no b ↦ rw (ne-eqb _ _ b) (
-                  elim (ℕ-discrete (e .kind) asking) [
-                    | yes k ↦ rw (eq-eqb _ _ k) (asks k)
-                    | no d ↦ rw (ne-eqb _ _ d) (
-                        elim (ℕ-discrete (e .kind) completion) [
-                          | yes k ↦ rw (eq-eqb _ _ k) (ends k)
-                          | no f ↦ rw (ne-eqb _ _ f) (passes (omega (arith, event-kinds .0, event-kinds .1)))
-                        ])
-                  ])
-            ])
-      ])
+      → P (stepBy pick s e .state)
+  unfolding stepBy act
+  step-by pick P comes goes asks ends passes = rw (eq-eqb (judge s e) 0 ok) (kind-by P (e .kind) _ _ _ _ _ event-kinds comes goes asks ends passes)
 
-  -- sound, and of the same set-up, from what is steady and quiet since a state of good times
-  sound-of : (s₂ s′ : State) → s₂ .setup ≡ c → s₂ .processors .count ≡ s .processors .count → Times s₂ → Quiet s₂ s′ → Steady c s′ → Keeps s s′
-  sound-of s₂ s′ a b T K S =
-      let same : s′ .setup ≡ c = K .setup ∙ a in (
-        record {
-          setup = ap setUpRefusal same ∙ Q .setup;
-          clean = ap isClear same ∙ Q .clean;
-          count = K .count ∙ b ∙ Q .count ∙ ap (λ (x : SetUp). x .processors) (sym same);
-          times = quiet-times s₂ s′ K T;
-          steady = subst (λ (x : SetUp). Steady x s′) (sym same) S;
-        },
-        same,
-      )
+  -- and of tasks and groups alone
+  pub edited-by : (P : State → Type 0)
+      → (e .kind ≡ arrival → P (arriveEdit (s .setup) (e .task) (charged (stepOf s e) s)))
+      → (e .kind ≡ finish → P (finishEdit (e .task) (charged (stepOf s e) s)))
+      → (e .kind ≡ asking → P (requestEdit (s .setup) (e .task) (e .resource) (charged (stepOf s e) s)))
+      → (e .kind ≡ completion → P (completeEdit (s .setup) (e .task) (e .resource) (charged (stepOf s e) s)))
+      → (e .kind ≡ passing → P (charged (stepOf s e) s))
+      → P (edited (s .setup) e (charged (stepOf s e) s))
+  unfolding edited
+  edited-by P comes goes asks ends passes = kind-by P (e .kind) _ _ _ _ _ event-kinds comes goes asks ends passes
 
   t-in : (arrival ≤ e .kind) × (e .kind ≤ completion) → t < length (s₁ .tasks)
   t-in k = omega (arith, row11 k, grouped .few-tasks, steady-of .sized .tasks)
 
-  accepted-sound : Keeps s (step s e .state)
-  unfolding charged arriveEvent finishEvent
-  accepted-sound = step-by (Keeps s)
-      (λ k.
-      let s₂ = onTask t (arriving (s₁ .clock) (s₁ .clock + period c t)) s₁ in
-      sound-of s₂ _ refl refl (comes-times s₁ t (t-in (omega arith)) times-of (row11 (omega arith))) (arrives-quiet c t s₂) (arrive-steady c grouped s₁ steady-of t (row11 (omega arith)) (same-of t .stood ∙ row16 k)))
-      (λ k.
-      let s₂ = onTask t departing s₁ in
-      sound-of s₂ _ refl refl (goes-times s₁ t (t-in (omega arith)) times-of) (leaves-quiet c t s₂) (finish-steady c grouped s₁ steady-of t (acts-of (omega arith)) (same-of t .deep ∙ row21 k)))
-      (λ k. sound-of s₁ _ refl refl times-of (request-quiet c t r s₁ (λ z. omega (arith, asks-of k .acts .act))) (request-steady c grouped s₁ steady-of t r (asks-of k)))
-      (λ k. sound-of s₁ _ refl refl times-of (complete-quiet c grouped s₁ steady-of t r (ends-of k)) (complete-steady c grouped s₁ steady-of t r (ends-of k)))
-      (λ k. sound-of s₁ s₁ refl refl times-of (record { setup = refl; clock = refl; count = refl; dated = λ u. refl; still = λ u. refl }) steady-of)
+  -- tasks and groups, times and set-up are as they must be, whatever became of the processors
+  pub done : (s′ : State) → Does s e s′ → (Times s′ × (s′ .setup ≡ s .setup)) × Steady (s .setup) s′
+  unfolding charged
+  done s′ D =
+      let from : (s₂ x : State) → s₂ .setup ≡ c → Times s₂ → Quiet s₂ x → Times x × (x .setup ≡ c) = λ s₂ x a T K. (quiet-times s₂ x K T, K .setup ∙ a) in
+      by-edit (λ x. (Times x × (x .setup ≡ c)) × Steady c x) s e s′ D (λ p.
+      let x = edited c e s₁ in
+      let z : (Times x × (x .setup ≡ c)) × Steady c x = edited-by (λ x. (Times x × (x .setup ≡ c)) × Steady c x)
+      (λ k. ((comes-times s₁ t (t-in (omega arith)) times-of (row11 (omega arith)) _ refl, refl), arrive-steady c grouped s₁ steady-of t _ (row11 (omega arith)) (same-of t .stood ∙ row16 k)))
+      (λ k. ((goes-times s₁ t (t-in (omega arith)) times-of, refl), finish-steady c grouped s₁ steady-of t (acts-of (omega arith)) (same-of t .deep ∙ row21 k)))
+      (λ k. (from s₁ _ refl times-of (request-quiet c t r s₁ (λ z. omega (arith, asks-of k .acts .act))), request-steady c grouped s₁ steady-of t r (asks-of k)))
+      (λ k. (from s₁ _ refl times-of (complete-quiet c grouped s₁ steady-of t r (ends-of k)), complete-steady c grouped s₁ steady-of t r (ends-of k)))
+      (λ k. ((times-of, refl), steady-of)) in
+      (from x (withProcessors p x) (z .0 .1) (z .0 .0) (quiet-with x p), with-steady c x p (z .1)))
 
--- ---- every event
-pub refused : (s : State) (e : Event) → judge s e ≢ 0 → step s e .state ≡ s
-unfolding step
-refused s e h = rw (ne-eqb _ _ h)
+  -- ---- the processors
+  -- no move changes how many processors there are
+  counted : (pick : Prefers) → stepBy pick s e .state .processors .count ≡ s .processors .count
+  unfolding charged arriveEvent finishEvent arrives leaves softens givesWay passes opens calls queues frees closes
+  counted pick =
+      let p = s .processors in
+      step-by pick (λ x. x .processors .count ≡ p .count) (λ _. arriving-count _ _ _ _) (λ _. leaving-count _ _ _)
+      (λ _. request-by c t r s₁ (λ x. x .processors .count ≡ p .count) (λ _. refl) (λ _ _ _. refl) (λ _ _ _. leaving-count _ _ _))
+      (λ _. complete-by pick c t r s₁ (λ x. x .processors .count ≡ p .count) (λ _. refl) (λ _ _ _. softening-count p (jobs c s) t) (λ _ _ _. softening-count p (jobs c s) t)
+      (λ _ _ _. giving-way-count _ _ _) (λ _ _ _. arriving-count _ _ _ _ ∙ giving-way-count _ _ _))
+      (λ _. refl)
 
--- an answer other than 0 hands back the very state
-pub refused-keeps : (s : State) (e : Event) → step s e .answer ≢ 0 → step s e .state ≡ s
-unfolding step
-refused-keeps s e h = elim (ℕ-discrete (judge s e) 0) [ yes ok ↦ absurd (h (rw (eq-eqb _ _ ok))) | no d ↦ refused s e d ]
+  placed-by : (pick : Prefers) → Rests c (stepBy pick s e .state)
+  unfolding charged arriveEvent
+  placed-by pick =
+      let P = charged-placed c grouped s (stepOf s e) (Q .steady) (Q .placed) in
+      step-by pick (Rests c)
+      (λ k. arrive-placed c grouped s₁ steady-of t _ (row11 (omega arith)) (same-of t .stood ∙ row16 k) pick P)
+      (λ k. finish-placed c grouped s₁ steady-of t (acts-of (omega arith)) (same-of t .deep ∙ row21 k) P)
+      (λ k. request-placed c grouped s₁ steady-of t r (asks-of k) P)
+      (λ k. complete-placed c grouped s₁ steady-of t r (ends-of k) pick P)
+      (λ k. P)
 
-step-keeps : (s : State) (e : Event) → Sound s → Keeps s (step s e .state)
-step-keeps s e Q = elim (ℕ-discrete (judge s e) 0) [ yes ok ↦ accepted-sound s e Q ok | no d ↦ subst (Keeps s) (sym (refused s e d)) (Q, refl) ]
+  accepted-sound : (pick : Prefers) → Keeps s (stepBy pick s e .state)
+  accepted-sound pick =
+      let s′ = stepBy pick s e .state in
+      let K = done s′ (step-does pick s e ok) in
+      let same : s′ .setup ≡ c = K .0 .1 in (
+        record {
+          setup = ap setUpRefusal same ∙ Q .setup;
+          clean = ap isClear same ∙ Q .clean;
+          count = counted pick ∙ Q .count ∙ ap (λ (x : SetUp). x .processors) (sym same);
+          times = K .0 .0;
+          steady = subst (λ (x : SetUp). Steady x s′) (sym same) (K .1);
+          placed = subst (λ (x : SetUp). Rests x s′) (sym same) (placed-by pick);
+        },
+        same,
+      )
 
-pub step-sound : (s : State) (e : Event) → Sound s → Sound (step s e .state)
-step-sound s e Q = step-keeps s e Q .0
+-- ---- every event, whatever is suggested
+module _ (pick : Prefers) (s : State) (e : Event) where
+  pub refused-by : judge s e ≢ 0 → stepBy pick s e .state ≡ s
+  unfolding stepBy
+  refused-by h = rw (ne-eqb _ _ h)
+
+  -- an answer other than 0 hands back the very state
+  pub refused-keeps-by : stepBy pick s e .answer ≢ 0 → stepBy pick s e .state ≡ s
+  unfolding stepBy
+  refused-keeps-by h = elim (ℕ-discrete (judge s e) 0) [ yes ok ↦ absurd (h (rw (eq-eqb _ _ ok))) | no d ↦ refused-by d ]
+
+  step-keeps : Sound s → Keeps s (stepBy pick s e .state)
+  step-keeps Q = elim (ℕ-discrete (judge s e) 0) [ yes ok ↦ accepted-sound s e Q ok pick | no d ↦ subst (Keeps s) (sym (refused-by d)) (Q, refl) ]
+
+  pub step-sound-by : Sound s → Sound (stepBy pick s e .state)
+  step-sound-by Q = step-keeps Q .0
+
+  pub step-setup-by : Sound s → stepBy pick s e .state .setup ≡ s .setup
+  step-setup-by Q = step-keeps Q .1
+
+  -- an event asks at most once where to go: it does the same with one processor suggested to all
+  pub one-suggested : (k : ℕ) × (stepBy pick s e ≡ stepBy (λ _ _. k) s e)
+  unfolding stepBy act arriveEvent completeEvent arrives
+  one-suggested =
+      let c = s .setup in
+      let t = e .task in
+      let g = groupOf c (e .resource) in
+      let s₁ = charged (stepOf s e) s in
+      elim (ℕ-discrete (e .kind) arrival) [
+        | yes k ↦ (pick (arriveEdit c t s₁) t, rw (eq-eqb _ _ k))
+        | no d ↦ (pick (passes g (givesWay c t (frees g (closes t s₁)))) (nextAt s₁ g), rw (ne-eqb _ _ d))
+      ]
 
 -- ---- any events
-pub run-sound : (s : State) (es : List Event) → Sound s → Sound (run s es)
-unfolding run
-run-sound s [] Q = Q
-run-sound s (e ∷ es) Q = run-sound (step s e .state) es (step-sound s e Q)
+pub run-sound-by : (s : State) (ms : List Move) → Sound s → Sound (runBy s ms)
+unfolding runBy
+run-sound-by s [] Q = Q
+run-sound-by s (m ∷ ms) Q = run-sound-by (moved s m) ms (step-sound-by (m .prefers) s (m .event) Q)
 
-pub run-setup : (s : State) (es : List Event) → Sound s → run s es .setup ≡ s .setup
-unfolding run
-run-setup s [] Q = refl
-run-setup s (e ∷ es) Q = run-setup (step s e .state) es (step-sound s e Q) ∙ step-keeps s e Q .1
+pub run-setup-by : (s : State) (ms : List Move) → Sound s → runBy s ms .setup ≡ s .setup
+unfolding runBy
+run-setup-by s [] Q = refl
+run-setup-by s (m ∷ ms) Q = run-setup-by (moved s m) ms (step-sound-by (m .prefers) s (m .event) Q) ∙ step-setup-by (m .prefers) s (m .event) Q
+
+-- one list behind another
+pub run-join-by : (s : State) (ms ns : List Move) → runBy s (ms ++ ns) ≡ runBy (runBy s ms) ns
+unfolding runBy
+run-join-by s [] ns = refl
+run-join-by s (m ∷ ms) ns = run-join-by (moved s m) ms ns
 
 -- a refused event can be left out
-pub refused-out : (s : State) (es fs : List Event) (e : Event) → judge (run s es) e ≢ 0 → run s (es ++ e ∷ fs) ≡ run s (es ++ fs)
-unfolding run
-refused-out s [] fs e h = ap (λ (x : State). run x fs) (refused s e h)
-refused-out s (d ∷ es) fs e h = refused-out (step s d .state) es fs e h
+pub refused-out : (s : State) (ms ns : List Move) (m : Move) → judge (runBy s ms) (m .event) ≢ 0 → runBy s (ms ++ m ∷ ns) ≡ runBy s (ms ++ ns)
+unfolding runBy
+refused-out s [] ns m h = ap (λ (x : State). runBy x ns) (refused-by (m .prefers) s (m .event) h)
+refused-out s (l ∷ ms) ns m h = refused-out (moved s l) ms ns m h
+
+-- ---- events alone
+module _ (s : State) where
+  pub refused-keeps : (e : Event) → step s e .answer ≢ 0 → step s e .state ≡ s
+  unfolding step
+  refused-keeps = refused-keeps-by cold s
+
+  pub step-sound : (e : Event) → Sound s → Sound (step s e .state)
+  unfolding step
+  step-sound = step-sound-by cold s
+
+  pub step-setup : (e : Event) → Sound s → step s e .state .setup ≡ s .setup
+  unfolding step
+  step-setup = step-setup-by cold s
+
+  pub run-sound : (es : List Event) → Sound s → Sound (run s es)
+  unfolding run
+  run-sound es = run-sound-by s (plain es)
+
+  pub run-setup : (es : List Event) → Sound s → run s es .setup ≡ s .setup
+  unfolding run
+  run-setup es = run-setup-by s (plain es)
+
+  pub run-join : (es fs : List Event) → run s (es ++ fs) ≡ run (run s es) fs
+  unfolding run
+  run-join es fs = ap (runBy s) (map-append _ es fs) ∙ run-join-by s (plain es) (plain fs)

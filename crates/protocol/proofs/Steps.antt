@@ -1,10 +1,12 @@
--- Each event keeps what holds of tasks, groups and processors. Of the scheduler, only its laws are cited. Assumes nothing.
-use Prim.Native.Nat.{ℕ, suc, _+_, _-_, _<_, _≤_}
+-- What each event does to tasks and groups keeps what holds of them; and its moves keep the processors `Placed`, by the scheduler's
+-- laws. Assumes nothing.
+use Prim.Native.Nat.{ℕ, suc, _-_, _<_, _≤_}
 use mathlib.Core.Path.{_≡_, refl, sym, ap, subst, _∙_}
 use mathlib.Core.Logic.{_≢_, _⊎_, inl, inr, ⊎-elim}
 use mathlib.Core.Bool.{true, false}
 use native.Mathlib.Omega.{arith}
 use native.Mathlib.Decide.{ℕ-discrete}
+use lib.ListN.{length}
 use Rattle.search.proofs.Tests.{tests}
 use Rattle.search.proofs.Pigeons.{fewer}
 use Rattle.processors.specs.declared.Processors.{Processors}
@@ -14,20 +16,21 @@ use Rattle.scheduler.specs.Placed.{Placed}
 use Rattle.scheduler.specs.Changes.{Alike, Joins, Softens}
 use Rattle.scheduler.proofs.Laws.{arriving-law, alike-law, hardening-law, softening-law, raising-law, leaving-law, giving-way-law}
 use Rattle.input.specs.Limits.{mostTasks, mostResources, short, long}
-use Rattle.input.specs.Words.{kind, period}
+use Rattle.input.specs.Words.{kind}
 use Rattle.setups.specs.Naming.{groupOf}
 use Rattle.input.specs.declared.SetUp.{SetUp}
-use Rattle.protocol.specs.Words.{mostRequests, nobody, absent, spinning, suspended, stand, asked, depth, request, holder, len, waiter}
+use Rattle.protocol.specs.Words.{mostRequests, nobody, absent, spinning, suspended, task, stand, asked, depth, request, holder, len, waiter}
 use Rattle.protocol.specs.Ranks.{own, jobs}
-use Rattle.protocol.specs.Locks.{arriving, departing, onTask, openOfKind, opens, queues, closes, frees, nextAt, calls, passes}
-use Rattle.protocol.specs.Events.{withProcessors, arrives, leaves, softens, givesWay, arriveEvent, finishEvent, requestEvent, completeEvent}
+use Rattle.protocol.specs.Locks.{arriving, departing, onTask, openOfKind, opens, queues, closes, frees, nextAt, calls, passes, finishEdit, requestEdit, completeEdit}
+use Rattle.protocol.specs.Events.{Prefers, withProcessors, arrives, leaves, softens, givesWay, finishEvent, requestEvent, completeEvent}
+use Rattle.protocol.specs.declared.Task.{Task}
 use Rattle.protocol.specs.declared.State.{State}
-use Rattle.protocol.proofs.Statements.{Grouped, Waits, LocksBut, Locks, Sized, Blank, Steady, Acts, Asks, Ends, Opens, Queues, Calls, Closes}
+use Rattle.protocol.proofs.Statements.{Grouped, Waits, LocksBut, Locks, Sized, Blank, Steady, Acts, Asks, Ends, Opens, Queues, Calls, Closes, Stands}
 use Rattle.protocol.proofs.Edits.{pending-in, whole, loosen, opens-locks, queues-locks, calls-locks, closes-locks, stands-locks}
 use Rattle.protocol.proofs.Told.{short-none, mode-soft}
 use Rattle.protocol.proofs.Jobs.{queues-short, queues-long, opens-short, opens-long, closes-inner, closes-long, closes-short, soften-alike, comes-jobs, goes-jobs, passes-long, passes-short}
-use Rattle.protocol.proofs.Branches.{request-by, complete-by}
-use Rattle.protocol.proofs.Views.{sized-task, opens-view, opens-sized, opens-own, queues-view, queues-sized, queues-own, calls-view, calls-sized, calls-own, closes-view, frees-view, closes-sized, frees-sized, closes-own, frees-own, with-group, with-jobs, stands-view, stands-stand, stands-own}
+use Rattle.protocol.proofs.Branches.{request-by, complete-by, request-edit-by, complete-edit-by}
+use Rattle.protocol.proofs.Views.{sized-task, opens-view, opens-sized, opens-own, queues-view, queues-sized, queues-own, calls-view, calls-sized, calls-own, closes-view, frees-view, closes-sized, frees-sized, closes-own, frees-own, with-jobs, stands-view, stands-stand, stands-own}
 use Rattle.protocol.proofs.Blanks.{opens-blank, queues-blank, calls-blank, closes-blank, frees-blank, stands-blank, with-blank, with-sized, with-locks}
 
 -- ---- of r's kind
@@ -41,8 +44,17 @@ module _ (c : SetUp) (s : State) (t r : ℕ) where
   kind-none e = simp tests at e
 
 -- ---- the processors of a state change
-moved : (c : SetUp) (s : State) (p : Processors) → Sized s → Blank s → Locks c s → Placed p (jobs c s) → Steady c (withProcessors p s)
-moved c s p Z B L P = record { sized = with-sized c s p Z; blank = with-blank c s p B; locks = with-locks c s p nobody L; placed = rw (with-jobs c s p) P }
+pub with-steady : (c : SetUp) (s : State) (p : Processors) → Steady c s → Steady c (withProcessors p s)
+with-steady c s p S = record { sized = with-sized c s p (S .sized); blank = with-blank c s p (S .blank); locks = with-locks c s p nobody (S .locks) }
+
+-- who is linked and runs, by the jobs of the state
+abbrev pub Rests : SetUp → State → Type 0
+Rests c s = Placed (s .processors) (jobs c s)
+
+-- a hand-over reads no processor
+passes-with : (p : Processors) (s : State) (g : ℕ) → passes g (withProcessors p s) ≡ withProcessors p (passes g s)
+unfolding passes opens calls asked waiter
+passes-with p s g = refl
 
 -- ---- u, the next of a group that nobody holds, becomes holder
 module _ (c : SetUp) (G : Grouped c) (s : State) (Z : Sized s) (B : Blank s) (g : ℕ) (g-in : g < mostResources) (L : LocksBut c s g)
@@ -100,41 +112,70 @@ module _ (c : SetUp) (G : Grouped c) (s : State) (Z : Sized s) (B : Blank s) (g 
   passed-long : kind c g ≡ long → Joins (jobs c s) (jobs c (passes g s)) u
   passed-long = passes-long c G s s₂ (passes g s) u (asked s u) g g g nobody L called-locks passed-locks called passed called-own passed-own refl refl free
 
-  passed-steady : (p : Processors) → Placed p (jobs c (passes g s)) → Steady c (withProcessors p (passes g s))
+  passed-steady : Steady c (passes g s)
   unfolding passes
-  passed-steady p = moved c (passes g s) p (opens-sized c s₂ called-sized called-blank g g-in u (asked s u) u-in room)
-      (opens-blank c s₂ called-sized called-blank g g-in u (asked s u) u-in room) passed-locks
+  passed-steady = record {
+    sized = opens-sized c s₂ called-sized called-blank g g-in u (asked s u) u-in room;
+    blank = opens-blank c s₂ called-sized called-blank g g-in u (asked s u) u-in room;
+    locks = passed-locks;
+  }
 
 module _ (c : SetUp) (G : Grouped c) (s : State) (S : Steady c s) (t : ℕ) where
   acts-in : Acts s t → t < mostTasks
   acts-in A = pending-in c G s nobody t (S .locks) (λ e. omega (arith, A .act))
 
+  -- ---- t, with nothing open, comes or goes
+  module _ (f : Task → Task) (none : depth s t ≡ 0) (t-in : t < mostTasks) where
+    stood-steady : (E : Stands s (onTask t f s) t) → (f (task s t) .requests ≡ task s t .requests) → (f (task s t) .totals ≡ task s t .totals) → Locks c (onTask t f s) → Steady c (onTask t f s)
+    stood-steady E a b L′ = record {
+      sized = sized-task s t f (S .sized) t-in (ap length a ∙ S .sized .requests t) (ap length b ∙ S .sized .totals t);
+      blank = stands-blank s t f (S .blank) none E;
+      locks = L′;
+    }
+
   -- ---- an arrival
-  pub arrive-steady : t < c .tasks → stand s t ≡ absent → Steady c (arriveEvent c t s)
-  unfolding arriveEvent arrives
-  arrive-steady t-task gone =
-      let f = arriving (s .clock) (s .clock + period c t) in
-      let s′ = onTask t f s in
-      let t-in : t < mostTasks = omega (arith, G .few-tasks) in
-      let none = S .locks .tasks t .none gone in
-      let E = stands-view s (S .sized) t t-in none f (omega arith) refl refl in
-      let L′ = stands-locks c s s′ t nobody (S .locks) E (omega arith) none (λ _. t-task) in
-      moved c s′ (linking (s .processors) (jobs c s′) t) (sized-task s t f (S .sized) t-in (S .sized .requests t) (S .sized .totals t)) (stands-blank s t f (S .blank) none E) L′
-      (arriving-law (s .processors) (jobs c s) (jobs c s′) (S .placed) t
-      (comes-jobs c G s s′ t nobody (S .locks) E L′ (stands-own s (S .sized) t t-in none f) t-in (omega arith) gone (stands-stand s (S .sized) t t-in none f)))
+  module _ (due : ℕ) (t-task : t < c .tasks) (gone : stand s t ≡ absent) where
+    abbrev come : Task → Task
+    come = arriving (s .clock) due
+
+    come-in : t < mostTasks
+    come-in = omega (arith, G .few-tasks)
+
+    come-none : depth s t ≡ 0
+    come-none = S .locks .tasks t .none gone
+
+    come-view : Stands s (onTask t come s) t
+    come-view = stands-view s (S .sized) t come-in come-none come (omega arith) refl refl
+
+    pub arrive-steady : Steady c (onTask t (arriving (s .clock) due) s)
+    arrive-steady = stood-steady come come-none come-in come-view refl refl (stands-locks c s _ t nobody (S .locks) come-view (omega arith) come-none (λ _. t-task))
+
+    pub arrive-placed : (pick : Prefers) → Rests c s → Rests c (arrives pick c t (onTask t (arriving (s .clock) due) s))
+    unfolding arrives
+    arrive-placed pick P =
+        let s′ = onTask t come s in
+        rw (with-jobs c s′ (linking (s .processors) (jobs c s′) t (pick s′ t)))
+        (arriving-law (s .processors) (jobs c s) (jobs c s′) P t
+        (comes-jobs c G s s′ t nobody (S .locks) come-view (arrive-steady .locks) (stands-own s (S .sized) t come-in come-none come) come-in (omega arith) gone (stands-stand s (S .sized) t come-in come-none come)) (pick s′ t))
 
   -- ---- a finish
-  pub finish-steady : Acts s t → depth s t ≡ 0 → Steady c (finishEvent c t s)
-  unfolding finishEvent leaves
-  finish-steady A none =
-      let s′ = onTask t departing s in
-      let t-in = acts-in A in
-      let E = stands-view s (S .sized) t t-in none departing (omega arith) refl refl in
-      let gone : stand s′ t ≡ absent = stands-stand s (S .sized) t t-in none departing in
-      let L′ = stands-locks c s s′ t nobody (S .locks) E (omega (arith, A .act)) none (λ z. absurd (z gone)) in
-      moved c s′ (leaving (s .processors) (jobs c s′) t) (sized-task s t departing (S .sized) t-in (S .sized .requests t) (S .sized .totals t)) (stands-blank s t departing (S .blank) none E) L′
-      (leaving-law (s .processors) (jobs c s) (jobs c s′) (S .placed) t t-in (A .on) (mode-soft c s t t-in (A .act) (short-none c s t (λ i l. absurd (omega arith))))
-      (goes-jobs c G s s′ t nobody (S .locks) E L′ (stands-own s (S .sized) t t-in none departing) t-in (omega (arith, A .act)) gone))
+  module _ (A : Acts s t) (none : depth s t ≡ 0) where
+    go-view : Stands s (onTask t departing s) t
+    go-view = stands-view s (S .sized) t (acts-in A) none departing (omega arith) refl refl
+
+    go-gone : stand (onTask t departing s) t ≡ absent
+    go-gone = stands-stand s (S .sized) t (acts-in A) none departing
+
+    pub finish-steady : Steady c (finishEdit t s)
+    finish-steady = stood-steady departing none (acts-in A) go-view refl refl (stands-locks c s _ t nobody (S .locks) go-view (omega (arith, A .act)) none (λ z. absurd (z go-gone)))
+
+    pub finish-placed : Rests c s → Rests c (finishEvent c t s)
+    unfolding finishEvent leaves
+    finish-placed P =
+        let s′ = onTask t departing s in
+        rw (with-jobs c s′ (leaving (s .processors) (jobs c s′) t))
+        (leaving-law (s .processors) (jobs c s) (jobs c s′) P t (acts-in A) (A .on) (mode-soft c s t (acts-in A) (A .act) (short-none c s t (λ i l. absurd (omega arith))))
+        (goes-jobs c G s s′ t nobody (S .locks) go-view (finish-steady .locks) (stands-own s (S .sized) t (acts-in A) none departing) (acts-in A) (omega (arith, A .act)) go-gone))
 
   module _ (r : ℕ) where
     abbrev g : ℕ
@@ -148,27 +189,34 @@ module _ (c : SetUp) (G : Grouped c) (s : State) (S : Steady c s) (t : ℕ) wher
 
     -- ---- a request
     module _ (A : Asks c s t r) where
-      opened : (holder s g ≡ t) ⊎ (holder s g ≡ nobody) → Steady c (opens t r g s)
-      unfolding opens
-      opened free =
-          let s′ = opens t r g s in
-          let t-in = acts-in (A .acts) in
-          let i = g-in (A .inside) in
-          let E = opens-view c s (S .sized) (S .blank) g (i .0) t r t-in (A .room) in
-          let L′ = opens-locks c G s s′ t r g (loosen c G s g (S .locks)) E (A .acts .act) free (A .inside) refl (A .room) (A .new) (A .longs-first) (A .within) nobody in
-          let own′ = opens-own c s (S .sized) (S .blank) g (i .0) t r t-in (A .room) in
-          record {
-            sized = opens-sized c s (S .sized) (S .blank) g (i .0) t r t-in (A .room);
-            blank = opens-blank c s (S .sized) (S .blank) g (i .0) t r t-in (A .room);
-            locks = L′;
-            placed = elim (ℕ-discrete (kind c r) short) [
-              | yes k ↦ hardening-law (s .processors) (jobs c s) (jobs c s′) (S .placed) t t-in (A .acts .on)
-                  (opens-short c G s s′ t r g nobody nobody (S .locks) L′ own′ (A .acts .act) (A .inside) refl E k)
-              | no k ↦ alike-law (s .processors) (jobs c s) (jobs c s′) (S .placed)
-                  (opens-long c G s s′ t r g nobody nobody (S .locks) L′ own′ (A .acts .act) (A .inside) refl E (kind-long (A .inside) k)
+      module _ (free : (holder s g ≡ t) ⊎ (holder s g ≡ nobody)) where
+        opened : Opens s (opens t r g s) t r g
+        opened = opens-view c s (S .sized) (S .blank) g (g-in (A .inside) .0) t r (acts-in (A .acts)) (A .room)
+
+        opened-steady : Steady c (opens t r g s)
+        opened-steady =
+            let t-in = acts-in (A .acts) in
+            let i = g-in (A .inside) .0 in
+            record {
+              sized = opens-sized c s (S .sized) (S .blank) g i t r t-in (A .room);
+              blank = opens-blank c s (S .sized) (S .blank) g i t r t-in (A .room);
+              locks = opens-locks c G s _ t r g (loosen c G s g (S .locks)) opened (A .acts .act) free (A .inside) refl (A .room) (A .new) (A .longs-first) (A .within) nobody;
+            }
+
+        opened-placed : Rests c s → Rests c (opens t r g s)
+        unfolding opens
+        opened-placed P =
+            let s′ = opens t r g s in
+            let t-in = acts-in (A .acts) in
+            let i = g-in (A .inside) in
+            let own′ = opens-own c s (S .sized) (S .blank) g (i .0) t r t-in (A .room) in
+            elim (ℕ-discrete (kind c r) short) [
+              | yes k ↦ hardening-law (s .processors) (jobs c s) (jobs c s′) P t t-in (A .acts .on)
+                  (opens-short c G s s′ t r g nobody nobody (S .locks) (opened-steady .locks) own′ (A .acts .act) (A .inside) refl opened k)
+              | no k ↦ alike-law (s .processors) (jobs c s) (jobs c s′) P
+                  (opens-long c G s s′ t r g nobody nobody (S .locks) (opened-steady .locks) own′ (A .acts .act) (A .inside) refl opened (kind-long (A .inside) k)
                   (⊎-elim (λ z. inl z) (λ z. inr (S .locks .groups g .only-held (i .1) z)) free))
-            ];
-          }
+            ]
 
       module _ (busy : holder s g ≢ nobody) (other : (i : ℕ) → i < depth s t → kind c (request s t i) ≢ kind c r) where
         -- t and those who wait are different tasks
@@ -183,49 +231,48 @@ module _ (c : SetUp) (G : Grouped c) (s : State) (S : Steady c s) (t : ℕ) wher
         pub queued : Queues c s (queues c t r (groupOf c r) s) t r (groupOf c r)
         queued = queues-view c s (S .sized) (S .blank) g (g-in (A .inside) .0) t r (acts-in (A .acts)) (G .kinds r (A .inside)) queue-room
 
-        queued-sized : Sized (queues c t r g s)
-        queued-sized = queues-sized c s (S .sized) (S .blank) g (g-in (A .inside) .0) t r (acts-in (A .acts)) (G .kinds r (A .inside)) queue-room
-
-        queued-blank : Blank (queues c t r g s)
-        queued-blank = queues-blank c s (S .sized) (S .blank) g (g-in (A .inside) .0) t r (acts-in (A .acts)) (G .kinds r (A .inside)) queue-room
-
         queued-own : (w : ℕ) → own (queues c t r g s) w ≡ own s w
         queued-own = queues-own c s (S .sized) (S .blank) g (g-in (A .inside) .0) t r (acts-in (A .acts)) (G .kinds r (A .inside)) queue-room
 
-        queued-locks : Locks c (queues c t r g s)
-        queued-locks = queues-locks c s (queues c t r g s) t r g (S .locks) queued (A .acts .act) busy (A .inside) refl (A .room) (A .longs-first) other
+        queued-steady : Steady c (queues c t r g s)
+        queued-steady = record {
+          sized = queues-sized c s (S .sized) (S .blank) g (g-in (A .inside) .0) t r (acts-in (A .acts)) (G .kinds r (A .inside)) queue-room;
+          blank = queues-blank c s (S .sized) (S .blank) g (g-in (A .inside) .0) t r (acts-in (A .acts)) (G .kinds r (A .inside)) queue-room;
+          locks = queues-locks c s (queues c t r g s) t r g (S .locks) queued (A .acts .act) busy (A .inside) refl (A .room) (A .longs-first) other;
+        }
 
-        spins : kind c r ≡ short → Steady c (queues c t r g s)
+        spins-placed : Rests c s → kind c r ≡ short → Rests c (queues c t r g s)
         unfolding queues
-        spins k =
+        spins-placed P k =
             let s′ = queues c t r g s in
-            record {
-              sized = queued-sized;
-              blank = queued-blank;
-              locks = queued-locks;
-              placed = hardening-law (s .processors) (jobs c s) (jobs c s′) (S .placed) t (acts-in (A .acts)) (A .acts .on)
-                  (queues-short c G s s′ t r g nobody nobody (S .locks) queued-locks queued-own (A .acts .act) (A .inside) refl queued k);
-            }
+            hardening-law (s .processors) (jobs c s) (jobs c s′) P t (acts-in (A .acts)) (A .acts .on)
+            (queues-short c G s s′ t r g nobody nobody (S .locks) (queued-steady .locks) queued-own (A .acts .act) (A .inside) refl queued k)
 
-        suspends : kind c r ≡ long → Steady c (leaves c t (queues c t r g s))
+        suspends-placed : Rests c s → kind c r ≡ long → Rests c (leaves c t (queues c t r g s))
         unfolding leaves queues
-        suspends k =
+        suspends-placed P k =
             let s′ = queues c t r g s in
             let t-in = acts-in (A .acts) in
             let asleep : stand s′ t ≡ suspended = omega (arith, queued .stood) in
-            let none : depth s t ≡ 0 = sym (queued .deep) ∙ queued-locks .tasks t .waits (omega arith) .asleep asleep in
+            let none : depth s t ≡ 0 = sym (queued .deep) ∙ queued-steady .locks .tasks t .waits (omega arith) .asleep asleep in
             let soft = mode-soft c s t t-in (A .acts .act) (short-none c s t (λ i l. absurd (omega arith))) in
-            moved c s′ (leaving (s .processors) (jobs c s′) t) queued-sized queued-blank queued-locks
-            (raising-law (s .processors) (jobs c s) (jobs c s′) (S .placed) t t-in (A .acts .on) soft (holder s g)
-            (queues-long c G s s′ t r g nobody nobody (S .locks) queued-locks queued-own (A .acts .act) (A .inside) refl queued k busy none))
+            rw (with-jobs c s′ (leaving (s .processors) (jobs c s′) t))
+            (raising-law (s .processors) (jobs c s) (jobs c s′) P t t-in (A .acts .on) soft (holder s g)
+            (queues-long c G s s′ t r g nobody nobody (S .locks) (queued-steady .locks) queued-own (A .acts .act) (A .inside) refl queued k busy none))
 
-      pub request-steady : Steady c (requestEvent c t r s)
-      request-steady = request-by c t r s (Steady c)
-          (λ e. opened (⊎-elim (λ q.
+      -- a group of r's kind that t has open is r's, and t holds it
+      granted : (openOfKind c s t r ≡ true) ⊎ (holder s g ≡ nobody) → (holder s g ≡ t) ⊎ (holder s g ≡ nobody)
+      granted = ⊎-elim (λ q.
           let i = kind-some c s t r q in
-          inl (ap (holder s) (sym (A .within (i .0) (i .1) (i .2))) ∙ S .locks .tasks t .opened .held (i .0) (i .1) .1)) (λ z. inr z) e))
-          (λ e b k. spins b (kind-none c s t r e) k)
-          (λ e b k. suspends b (kind-none c s t r e) (kind-long (A .inside) k))
+          inl (ap (holder s) (sym (A .within (i .0) (i .1) (i .2))) ∙ S .locks .tasks t .opened .held (i .0) (i .1) .1)) (λ z. inr z)
+
+      pub request-steady : Steady c (requestEdit c t r s)
+      request-steady = request-edit-by c t r s (Steady c) (λ e. opened-steady (granted e)) (λ e b. queued-steady b (kind-none c s t r e))
+
+      pub request-placed : Rests c s → Rests c (requestEvent c t r s)
+      request-placed P = request-by c t r s (Rests c) (λ e. opened-placed (granted e) P)
+          (λ e b k. spins-placed b (kind-none c s t r e) P k)
+          (λ e b k. suspends-placed b (kind-none c s t r e) P (kind-long (A .inside) k))
 
     -- ---- a completion
     module _ (A : Ends s t r) where
@@ -243,26 +290,32 @@ module _ (c : SetUp) (G : Grouped c) (s : State) (S : Steady c s) (t : ℕ) wher
       was d e = ap (request s t) (omega (arith, A .some)) ∙ A .newest
 
       -- inner
-      inner : (k : ℕ) → k < depth (closes t s) t → kind c (request (closes t s) t k) ≡ kind c r → Steady c (closes t s)
-      unfolding closes
-      inner k b q =
-          let s′ = closes t s in
-          let t-in = acts-in (A .acts) in
-          let i = g-in (newest .0) .0 in
-          let r-is = was (depth s′ t) (closed .deep) in
-          let g-is : groupOf c (request s t k) ≡ g = S .locks .tasks t .opened .one-group k (depth s′ t) (omega (arith, closed .deep)) (omega (arith, closed .deep))
-          (ap (kind c) (sym (closed .old k b)) ∙ q ∙ ap (kind c) (sym r-is)) ∙ ap (groupOf c) r-is in
-          let L′ = whole c s′ g nobody
-          (closes-locks c s s′ t g (holder s g) (loosen c G s g (S .locks)) closed (A .acts .act) (ap (groupOf c) r-is) (inl (newest .1, (k, b, g-is))))
-          (λ z. absurd (omega (arith, newest .1, closed .holds))) in
-          record {
-            sized = closes-sized c s (S .sized) (S .blank) g i t (A .left) t-in (A .some) few;
-            blank = closes-blank c s (S .sized) (S .blank) g i t (A .left) t-in (A .some) few;
-            locks = L′;
-            placed = alike-law (s .processors) (jobs c s) (jobs c s′) (S .placed)
-                (closes-inner c G s s′ t g (holder s g) nobody nobody (S .locks) closed L′ (closes-own c s (S .sized) (S .blank) g i t (A .left) t-in (A .some) few)
-                (A .acts .act) (ap (groupOf c) r-is) (newest .1) k b g-is);
-          }
+      module _ (k : ℕ) (b : k < depth (closes t s) t) (q : kind c (request (closes t s) t k) ≡ kind c r) where
+        inner-is : request s t (depth (closes t s) t) ≡ r
+        inner-is = was (depth (closes t s) t) (closed .deep)
+
+        inner-group : groupOf c (request s t k) ≡ g
+        inner-group = S .locks .tasks t .opened .one-group k (depth (closes t s) t) (omega (arith, closed .deep)) (omega (arith, closed .deep))
+            (ap (kind c) (sym (closed .old k b)) ∙ q ∙ ap (kind c) (sym inner-is)) ∙ ap (groupOf c) inner-is
+
+        inner-steady : Steady c (closes t s)
+        inner-steady =
+            let t-in = acts-in (A .acts) in
+            let i = g-in (newest .0) .0 in
+            record {
+              sized = closes-sized c s (S .sized) (S .blank) g i t (A .left) t-in (A .some) few;
+              blank = closes-blank c s (S .sized) (S .blank) g i t (A .left) t-in (A .some) few;
+              locks = whole c (closes t s) g nobody
+                  (closes-locks c s (closes t s) t g (holder s g) (loosen c G s g (S .locks)) closed (A .acts .act) (ap (groupOf c) inner-is) (inl (newest .1, (k, b, inner-group))))
+                  (λ z. absurd (omega (arith, newest .1, closed .holds)));
+            }
+
+        inner-placed : Rests c s → Rests c (closes t s)
+        unfolding closes
+        inner-placed P = alike-law (s .processors) (jobs c s) (jobs c (closes t s)) P
+            (closes-inner c G s (closes t s) t g (holder s g) nobody nobody (S .locks) closed (inner-steady .locks)
+            (closes-own c s (S .sized) (S .blank) g (g-in (newest .0) .0) t (A .left) (acts-in (A .acts)) (A .some) few)
+            (A .acts .act) (ap (groupOf c) inner-is) (newest .1) k b inner-group)
 
       -- outermost: the group is free, and may have a queue
       module _ (last : (k : ℕ) → k < depth (closes t s) t → kind c (request (closes t s) t k) ≢ kind c r) where
@@ -293,72 +346,79 @@ module _ (c : SetUp) (G : Grouped c) (s : State) (S : Steady c s) (t : ℕ) wher
         freed-locks = closes-locks c s f t g nobody (loosen c G s g (S .locks)) freed (A .acts .act) freed-group (inr (refl, none-left))
 
         -- no queue: the group is whole
-        freed-steady : len s g ≡ 0 → (p : Processors) → Placed p (jobs c f) → Steady c (withProcessors p f)
-        freed-steady z p = moved c f p freed-sized freed-blank (whole c f g nobody freed-locks (λ _. freed .long ∙ z))
-
-        -- short: the completer is preemptable
-        softer : kind c r ≡ short → Softens (jobs c s) (jobs c f) t
-        softer k = closes-short c G s f t g nobody nobody g (S .locks) freed freed-locks freed-own (A .acts .act) freed-group refl (G .alike r (newest .0) ∙ k) none-left
-
-        short-empty : kind c r ≡ short → len s g ≡ 0 → Steady c (softens c t f)
-        unfolding softens frees closes
-        short-empty k z = freed-steady z (becomingPreemptable (s .processors) t)
-            (softening-law (s .processors) (jobs c s) (jobs c f) (S .placed) t (acts-in (A .acts)) (A .acts .on) (softer k))
-
-        -- and the first in line goes on unpreempted
-        short-pass : kind c r ≡ short → (n : ℕ) → len s g ≡ suc n → Steady c (softens c t (passes g f))
-        unfolding softens passes opens calls frees closes
-        short-pass k n z =
-            let s′ = passes g f in
-            let i = g-in (newest .0) .0 in
-            let e = freed .long ∙ z in
-            let alike = passed-short c G f freed-sized freed-blank g i freed-locks (freed .holds) n e (G .alike r (newest .0) ∙ k) in
-            passed-steady c G f freed-sized freed-blank g i freed-locks (freed .holds) n e (becomingPreemptable (s .processors) t)
-            (softening-law (s .processors) (jobs c s) (jobs c s′) (S .placed) t (acts-in (A .acts)) (A .acts .on) (soften-alike c s f s′ t (softer k) alike))
-
-        -- long: the completer's rank is restored, and it gives way
-        restored : kind c r ≡ long → Placed (givingWay (s .processors) (jobs c f) t) (jobs c f)
-        restored k =
-            let t-in = acts-in (A .acts) in
-            let soft = mode-soft c s t t-in (A .acts .act) (short-none c s t (λ i l q.
-            elim (ℕ-discrete i (A .left)) [
-              | yes e ↦ omega (arith, ap (kind c) (was i (A .some ∙ ap suc (sym e))))
-              | no d ↦ omega (arith, S .locks .tasks t .opened .longs-first (A .left) i (omega (arith, A .some)) (omega (arith, A .some)) (ap (kind c) (A .newest) ∙ k))
-            ])) in
-            giving-way-law (s .processors) (jobs c s) (jobs c f) (S .placed) t t-in (A .acts .on) soft
-            (closes-long c G s f t g nobody nobody g (S .locks) freed freed-locks freed-own (A .acts .act) freed-group refl (G .alike r (newest .0) ∙ k))
-
-        long-empty : kind c r ≡ long → len s g ≡ 0 → Steady c (givesWay c t f)
-        unfolding givesWay frees closes
-        long-empty k z = freed-steady z (givingWay (s .processors) (jobs c f) t) (restored k)
-
-        -- and the first in line resumes
-        long-pass : kind c r ≡ long → (n : ℕ) → len s g ≡ suc n → Steady c (arrives c (nextAt s g) (passes g (givesWay c t f)))
-        unfolding givesWay arrives passes opens calls frees closes
-        long-pass k n z =
-            let p = givingWay (s .processors) (jobs c f) t in
-            let b = withProcessors p f in
-            let s′ = passes g b in
-            let i = g-in (newest .0) .0 in
-            let Z = with-sized c f p freed-sized in
-            let B = with-blank c f p freed-blank in
-            let L = with-locks c f p g freed-locks in
-            let E = with-group c f p g in
-            let free = E .holds ∙ freed .holds in
-            let e = E .long ∙ freed .long ∙ z in
-            let joins : Joins (jobs c f) (jobs c s′) (nextAt b g) = rw (with-jobs c f p) at (passed-long c G b Z B g i L free n e (G .alike r (newest .0) ∙ k)) in
-            subst (λ (v : ℕ). Steady c (arrives c v s′)) (E .line 0 ∙ freed .line 0)
-            (passed-steady c G b Z B g i L free n e (linking p (jobs c s′) (nextAt b g)) (arriving-law p (jobs c f) (jobs c s′) (restored k) (nextAt b g) joins))
+        freed-steady : len s g ≡ 0 → Steady c f
+        freed-steady z = record { sized = freed-sized; blank = freed-blank; locks = whole c f g nobody freed-locks (λ _. freed .long ∙ z) }
 
         -- the first in line waited, whatever the processors
-        pub first-stands : (n : ℕ) → len s (groupOf c r) ≡ suc n → (p : Processors)
-            → spinning ≤ stand (withProcessors p (frees (groupOf c r) (closes t s))) (nextAt (withProcessors p (frees (groupOf c r) (closes t s))) (groupOf c r))
-        first-stands n z p = with-locks c f p g freed-locks .groups g .queued 0 (omega (arith, with-group c f p g .long, freed .long)) .0
+        pub first-stands : (n : ℕ) → len s (groupOf c r) ≡ suc n → spinning ≤ stand (frees (groupOf c r) (closes t s)) (nextAt (frees (groupOf c r) (closes t s)) (groupOf c r))
+        first-stands n z = freed-locks .groups g .queued 0 (omega (arith, freed .long)) .0
 
-      pub complete-steady : Steady c (completeEvent c t r s)
-      complete-steady = complete-by c t r s (Steady c)
-          (λ e. let i = kind-some c (closes t s) t r e in inner (i .0) (i .1) (i .2))
-          (λ e k z. short-empty (kind-none c (closes t s) t r e) k z)
-          (λ e k z. short-pass (kind-none c (closes t s) t r e) k (len s g - 1) (omega arith))
-          (λ e k z. long-empty (kind-none c (closes t s) t r e) (kind-long (newest .0) k) z)
-          (λ e k z. long-pass (kind-none c (closes t s) t r e) (kind-long (newest .0) k) (len s g - 1) (omega arith))
+        module _ (n : ℕ) (some : len s g ≡ suc n) where
+          pass-steady : Steady c (passes g f)
+          pass-steady = passed-steady c G f freed-sized freed-blank g (g-in (newest .0) .0) freed-locks (freed .holds) n (freed .long ∙ some)
+
+          pass-short : kind c r ≡ short → Alike (jobs c f) (jobs c (passes g f))
+          pass-short k = passed-short c G f freed-sized freed-blank g (g-in (newest .0) .0) freed-locks (freed .holds) n (freed .long ∙ some) (G .alike r (newest .0) ∙ k)
+
+          pass-long : kind c r ≡ long → Joins (jobs c f) (jobs c (passes g f)) (nextAt f g)
+          pass-long k = passed-long c G f freed-sized freed-blank g (g-in (newest .0) .0) freed-locks (freed .holds) n (freed .long ∙ some) (G .alike r (newest .0) ∙ k)
+
+        -- ---- the processors
+        module _ (P : Rests c s) where
+          -- short: the completer is preemptable
+          softer : kind c r ≡ short → Softens (jobs c s) (jobs c f) t
+          softer k = closes-short c G s f t g nobody nobody g (S .locks) freed freed-locks freed-own (A .acts .act) freed-group refl (G .alike r (newest .0) ∙ k) none-left
+
+          softened : (s′ : State) → Softens (jobs c s) (jobs c s′) t → Placed (becomingPreemptable (s .processors) t) (jobs c s′)
+          softened s′ X = softening-law (s .processors) (jobs c s) (jobs c s′) P t (acts-in (A .acts)) (A .acts .on) X
+
+          short-empty : kind c r ≡ short → Rests c (softens c t f)
+          unfolding softens frees closes
+          short-empty k = rw (with-jobs c f (becomingPreemptable (s .processors) t)) (softened f (softer k))
+
+          -- and the first in line goes on unpreempted
+          short-pass : kind c r ≡ short → (n : ℕ) → len s g ≡ suc n → Rests c (softens c t (passes g f))
+          unfolding softens passes opens calls frees closes
+          short-pass k n z = rw (with-jobs c (passes g f) (becomingPreemptable (s .processors) t)) (softened (passes g f) (soften-alike c s f (passes g f) t (softer k) (pass-short n z k)))
+
+          -- long: the completer's rank is restored, and it gives way
+          pub restored : kind c r ≡ long → Placed (givingWay (s .processors) (jobs c (frees (groupOf c r) (closes t s))) t) (jobs c (frees (groupOf c r) (closes t s)))
+          restored k =
+              let t-in = acts-in (A .acts) in
+              let soft = mode-soft c s t t-in (A .acts .act) (short-none c s t (λ i l q.
+              elim (ℕ-discrete i (A .left)) [
+                | yes e ↦ omega (arith, ap (kind c) (was i (A .some ∙ ap suc (sym e))))
+                | no d ↦ omega (arith, S .locks .tasks t .opened .longs-first (A .left) i (omega (arith, A .some)) (omega (arith, A .some)) (ap (kind c) (A .newest) ∙ k))
+              ])) in
+              giving-way-law (s .processors) (jobs c s) (jobs c f) P t t-in (A .acts .on) soft
+              (closes-long c G s f t g nobody nobody g (S .locks) freed freed-locks freed-own (A .acts .act) freed-group refl (G .alike r (newest .0) ∙ k))
+
+          long-empty : kind c r ≡ long → Rests c (givesWay c t f)
+          unfolding givesWay frees closes
+          long-empty k = rw (with-jobs c f (givingWay (s .processors) (jobs c f) t)) (restored k)
+
+          -- and the first in line resumes
+          long-pass : (pick : Prefers) → kind c r ≡ long → (n : ℕ) → len s g ≡ suc n → Rests c (arrives pick c (nextAt s g) (passes g (givesWay c t f)))
+          unfolding givesWay arrives frees closes
+          long-pass pick k n z =
+              let p = givingWay (s .processors) (jobs c f) t in
+              let s′ = passes g f in
+              let v = nextAt s g in
+              let joins : Joins (jobs c f) (jobs c s′) v = subst (Joins (jobs c f) (jobs c s′)) (freed .line 0) (pass-long n z k) in
+              let w = pick (withProcessors p s′) v in
+              subst (λ (x : State). Rests c (withProcessors (linking (x .processors) (jobs c x) v (pick x v)) x)) (sym (passes-with p f g))
+              (rw (with-jobs c s′ p, with-jobs c s′ (linking p (jobs c s′) v w)) (arriving-law p (jobs c f) (jobs c s′) (restored k) v joins w))
+
+      pub complete-steady : Steady c (completeEdit c t r s)
+      complete-steady = complete-edit-by c t r s (Steady c)
+          (λ e. let i = kind-some c (closes t s) t r e in inner-steady (i .0) (i .1) (i .2))
+          (λ e z. freed-steady (kind-none c (closes t s) t r e) z)
+          (λ e z. pass-steady (kind-none c (closes t s) t r e) (len s g - 1) (omega arith))
+
+      pub complete-placed : (pick : Prefers) → Rests c s → Rests c (completeEvent pick c t r s)
+      complete-placed pick P = complete-by pick c t r s (Rests c)
+          (λ e. let i = kind-some c (closes t s) t r e in inner-placed (i .0) (i .1) (i .2) P)
+          (λ e k z. short-empty (kind-none c (closes t s) t r e) P k)
+          (λ e k z. short-pass (kind-none c (closes t s) t r e) P k (len s g - 1) (omega arith))
+          (λ e k z. long-empty (kind-none c (closes t s) t r e) P (kind-long (newest .0) k))
+          (λ e k z. long-pass (kind-none c (closes t s) t r e) P pick (kind-long (newest .0) k) (len s g - 1) (omega arith))

@@ -1,80 +1,89 @@
 -- The theorems, of every run from an accepted set-up. The statements are those of specs/Demands. Assumes nothing.
-use Prim.Native.Nat.{ℕ, _<_}
-use mathlib.Core.Path.{_≡_, ap, subst, _∙_}
-use mathlib.Core.List.{List, _∷_, _++_}
-use mathlib.Core.Logic.{_≢_}
-use mathlib.Core.Bool.{true, false}
-use borrow.Author.Tests.{eq-eqb}
-use Rattle.input.specs.Limits.{mostTasks, short}
-use Rattle.input.specs.Words.{kind}
-use Rattle.input.specs.Kinds.{request as asking}
+use mathlib.Core.Path.{_≡_, refl, ap, subst, _∙_}
+use mathlib.Core.List.{List}
+use borrow.Author.Tests.{eq-eqb, ne-eqb}
+use Rattle.search.proofs.Tables.{replicate-at}
+use Rattle.processors.specs.Limits.{processors}
+use Rattle.processors.specs.Words.{noneLinked}
+use Rattle.input.specs.Limits.{mostTasks, mostResources}
 use Rattle.setups.specs.Refusals.{setUpRefusal}
 use Rattle.setups.specs.Clearing.{cleared}
 use Rattle.input.specs.declared.SetUp.{SetUp}
 use Rattle.input.specs.declared.Event.{Event}
-use Rattle.protocol.specs.Sound.{sound}
-use Rattle.protocol.specs.Refusals.{judge}
-use Rattle.protocol.specs.Words.{sum, task}
-use Rattle.protocol.specs.Ranks.{shortOpen}
-use Rattle.protocol.specs.Events.{fresh, begin}
-use Rattle.protocol.specs.Demands.{Given, after, PrioritiesApart, LinksHighest, OneHolder, ChainsEnd, OnePlace, ShortQueue, Charges, pendingTicks}
-use Rattle.protocol.specs.declared.State.{State}
+use Rattle.protocol.specs.Words.{nobody, noTask, noGroup}
+use Rattle.protocol.specs.Events.{Move, fresh, begin}
+use Rattle.protocol.specs.Demands.{Given, after, LinksHighest, ShortQueue, AlwaysSound, AlwaysApart, AlwaysHighest, AlwaysOneHolder, AlwaysChainsEnd, AlwaysOnePlace, AlwaysShortQueue, AlwaysCharges, AlwaysSums, RefusedLeftOut, RefusedKeeps, IsEmpty, RefusedIsEmpty}
 use Rattle.protocol.proofs.Statements.{Sound}
 use Rattle.protocol.proofs.Begin.{begin-sound}
 use Rattle.protocol.proofs.Reflect.{test-of-sound}
-use Rattle.protocol.proofs.Step.{run-sound, run-setup, refused-out}
+use Rattle.protocol.proofs.Step.{run-sound-by, run-setup-by, refused-out, refused-keeps-by}
 use Rattle.protocol.proofs.Totals.{charges, totals-after}
 use Rattle.protocol.proofs.Holding.{priorities-apart, links-highest, one-holder, chains-end, one-place}
 use Rattle.protocol.proofs.Short.{short-queue}
 
-module _ (c : SetUp) (g : Given c) (es : List Event) where
-  start : Sound (begin c .state)
-  start = begin-sound c (g .accepted) (g .start)
+start : (c : SetUp) → Given c → Sound (begin c .state)
+start c g = begin-sound c (g .accepted) (g .start)
 
-  Q : Sound (after c es)
-  Q = run-sound (begin c .state) es start
+module _ (c : SetUp) (g : Given c) (ms : List Move) where
+  Q : Sound (after c ms)
+  Q = run-sound-by (begin c .state) ms (start c g)
 
   -- the set-up is the one given, cleared, so m is the number of processors given
-  same-setup : after c es .setup ≡ cleared c
+  same-setup : after c ms .setup ≡ cleared c
   unfolding begin fresh
-  same-setup = run-setup (begin c .state) es start ∙ rw (eq-eqb (setUpRefusal c) 0 (g .accepted))
+  same-setup = run-setup-by (begin c .state) ms (start c g) ∙ rw (eq-eqb (setUpRefusal c) 0 (g .accepted))
 
-  same-count : after c es .setup .processors ≡ c .processors
+  same-count : after c ms .setup .processors ≡ c .processors
   unfolding cleared
   same-count = ap (λ (x : SetUp). x .processors) same-setup
 
-  -- ---- the state is sound
-  pub sound-after : sound (after c es) ≡ true
-  sound-after = test-of-sound (after c es) Q
+-- ---- the state is sound
+pub sound-after : AlwaysSound
+sound-after c g ms = test-of-sound (after c ms) (Q c g ms)
 
-  -- ---- demand 3
-  pub priorities-apart-after : PrioritiesApart (after c es)
-  priorities-apart-after = priorities-apart (after c es) Q
+-- ---- demand 3
+pub priorities-apart-after : AlwaysApart
+priorities-apart-after c g ms = priorities-apart (after c ms) (Q c g ms)
 
-  pub links-highest-after : LinksHighest (after c es) (c .processors)
-  links-highest-after = subst (LinksHighest (after c es)) same-count (links-highest (after c es) Q)
+pub links-highest-after : AlwaysHighest
+links-highest-after c g ms = subst (LinksHighest (after c ms)) (same-count c g ms) (links-highest (after c ms) (Q c g ms))
 
-  pub one-holder-after : OneHolder (after c es)
-  one-holder-after = one-holder (after c es) Q
+pub one-holder-after : AlwaysOneHolder
+one-holder-after c g ms = one-holder (after c ms) (Q c g ms)
 
-  pub chains-end-after : ChainsEnd (after c es)
-  chains-end-after = chains-end (after c es) Q
+pub chains-end-after : AlwaysChainsEnd
+chains-end-after c g ms = chains-end (after c ms) (Q c g ms)
 
-  -- a request for a short resource by a job with no short request open
-  pub short-queue-after : (e : Event) → judge (after c es) e ≡ 0 → e .kind ≡ asking → kind (after c es .setup) (e .resource) ≡ short
-      → shortOpen (after c es .setup) (after c es) (e .task) ≡ false → ShortQueue (after c es) e (c .processors)
-  short-queue-after e ok k s o = subst (ShortQueue (after c es) e) same-count (short-queue (after c es) e Q ok k s o)
+pub short-queue-after : AlwaysShortQueue
+short-queue-after c g ms pick e ok k s o = subst (ShortQueue (after c ms) pick e) (same-count c g ms) (short-queue (after c ms) pick e (Q c g ms) ok k s o)
 
-  pub one-place-after : OnePlace (after c es)
-  one-place-after = one-place (after c es) Q
+pub one-place-after : AlwaysOnePlace
+one-place-after c g ms = one-place (after c ms) (Q c g ms)
 
-  -- ---- totals
-  pub charges-after : (e : Event) (t : ℕ) → judge (after c es) e ≡ 0 → t < mostTasks → Charges (after c es) e t
-  charges-after e t ok h = charges (after c es) e t Q ok h
+-- ---- totals
+pub charges-after : AlwaysCharges
+charges-after c g ms pick e t ok h = charges (after c ms) pick e t (Q c g ms) ok h
 
-  pub totals-sum-after : (t : ℕ) → sum (task (after c es) t .totals) ≡ pendingTicks (begin c .state) es t false 0
-  totals-sum-after t = totals-after c g es t
+pub totals-sum-after : AlwaysSums
+totals-sum-after c g ms t = totals-after c g ms t
 
-  -- ---- a refused event can be left out
-  pub refused-out-after : (e : Event) (fs : List Event) → judge (after c es) e ≢ 0 → after c (es ++ e ∷ fs) ≡ after c (es ++ fs)
-  refused-out-after e fs h = refused-out (begin c .state) es fs e h
+-- ---- refused events and set-ups
+pub refused-out-after : RefusedLeftOut
+refused-out-after c g ms m ns h = refused-out (begin c .state) ms ns m h
+
+pub refused-kept : RefusedKeeps
+refused-kept = refused-keeps-by
+
+pub refused-empty : RefusedIsEmpty
+unfolding begin fresh noneLinked
+refused-empty c h = rw (ne-eqb (setUpRefusal c) 0 h) (
+  refl,
+  record {
+    processors = (refl, refl);
+    counts = (refl, refl, refl);
+    clock = (refl, refl);
+    links = λ k. (replicate-at processors k nobody, replicate-at processors k nobody);
+    tasks = λ t. replicate-at mostTasks t noTask;
+    groups = λ g. replicate-at mostResources g noGroup;
+  },
+)

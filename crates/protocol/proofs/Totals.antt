@@ -13,7 +13,6 @@ use Rattle.search.specs.Words.{if_then_else_, _is_, _isn't_}
 use Rattle.search.proofs.Tests.{tests, never}
 use Rattle.search.proofs.Tables.{table-at, replicate-at}
 use Rattle.input.specs.Limits.{mostTasks}
-use Rattle.input.specs.Words.{period}
 use Rattle.setups.specs.Refusals.{setUpRefusal}
 use Rattle.input.specs.Kinds.{arrival, finish}
 use Rattle.input.specs.declared.SetUp.{SetUp}
@@ -21,17 +20,18 @@ use Rattle.input.specs.declared.Event.{Event}
 use Rattle.protocol.specs.Words.{sum, absent, standingNo, noTask, task, stand}
 use Rattle.protocol.specs.Situations.{situation, totalOf}
 use Rattle.protocol.specs.Refusals.{stepOf, judge}
-use Rattle.protocol.specs.Locks.{arriving, departing, onTask}
-use Rattle.protocol.specs.Events.{arriveEvent, finishEvent, counting, charged, step, run, fresh, begin}
+use Rattle.protocol.specs.Locks.{arriving, departing, onTask, edited}
+use Rattle.protocol.specs.Events.{Prefers, counting, charged, fresh, begin, Move, moved, stepBy, runBy}
 use Rattle.protocol.specs.Demands.{Given, after, accepts, pendingTicks, Charges}
 use Rattle.protocol.specs.declared.Task.{Task}
 use Rattle.protocol.specs.declared.State.{State}
 use Rattle.protocol.proofs.Statements.{Sound}
 use Rattle.protocol.proofs.Views.{task-at, task-off}
 use Rattle.protocol.proofs.Begin.{begin-sound}
-use Rattle.protocol.proofs.Dates.{Dates, Quiet, aged-sum}
-use Rattle.protocol.proofs.Quiets.{arrives-quiet, leaves-quiet, request-quiet, complete-quiet}
-use Rattle.protocol.proofs.Step.{grouped, steady-of, same-of, row11, row16, acts-of, asks-of, ends-of, step-by, refused, step-sound}
+use Rattle.protocol.proofs.Dates.{Dates, Quiet, quiet-with, aged-sum}
+use Rattle.protocol.proofs.Quiets.{request-quiet, complete-quiet}
+use Rattle.protocol.proofs.Edited.{Does, step-does, by-edit}
+use Rattle.protocol.proofs.Step.{grouped, steady-of, same-of, row11, row16, acts-of, asks-of, ends-of, edited-by, refused-by, step-sound-by}
 
 abbrev pending : State → ℕ → Bool
 pending s t = stand s t isn't absent
@@ -70,7 +70,7 @@ one-changes s u t f p h keep e = elim (ℕ-discrete t u) [
 ]
 
 -- ---- an accepted event
-module _ (s : State) (e : Event) (Q : Sound s) (ok : judge s e ≡ 0) (t : ℕ) where
+module _ (s : State) (e : Event) (Q : Sound s) (ok : judge s e ≡ 0) (s′ : State) (D : Does s e s′) (t : ℕ) where
   abbrev s₁ : State
   s₁ = charged (stepOf s e) s
 
@@ -81,24 +81,20 @@ module _ (s : State) (e : Event) (Q : Sound s) (ok : judge s e ≡ 0) (t : ℕ) 
   t-in : e .task < s .setup .tasks → e .task < length (s₁ .tasks)
   t-in l = omega (arith, grouped s e Q ok .few-tasks, steady-of s e Q ok .sized .tasks)
 
-  comes : Comes s₁ (step s e .state) t stays
-  unfolding arriveEvent finishEvent
+  comes : Comes s₁ s′ t stays
   comes =
       let c = s .setup in
       let named = row11 s e Q ok in
       let start = as-before s₁ t in
-      step-by s e Q ok (λ s′. Comes s₁ s′ t stays)
-      (λ k.
-      let f = arriving (s₁ .clock) (s₁ .clock + period c (e .task)) in
-      rw (eq-eqb (e .kind) arrival k, ne-eqb (e .kind) finish (λ z. omega arith))
-      (then-quiet s₁ (onTask (e .task) f s₁) _ t _ (one-changes s₁ (e .task) t f true (t-in (named (omega arith))) refl refl) (arrives-quiet c (e .task) (onTask (e .task) f s₁))))
-      (λ k. rw (ne-eqb (e .kind) arrival (λ z. omega arith), eq-eqb (e .kind) finish k)
-      (then-quiet s₁ (onTask (e .task) departing s₁) _ t _ (one-changes s₁ (e .task) t departing false (t-in (named (omega arith))) refl refl) (leaves-quiet c (e .task) (onTask (e .task) departing s₁))))
+      by-edit (λ x. Comes s₁ x t stays) s e s′ D (λ p. then-quiet s₁ _ _ t stays (edited-by s e Q ok (λ x. Comes s₁ x t stays)
+      (λ k. rw (eq-eqb (e .kind) arrival k, ne-eqb (e .kind) finish (λ z. omega arith))
+      (one-changes s₁ (e .task) t (arriving (s₁ .clock) _) true (t-in (named (omega arith))) refl refl))
+      (λ k. rw (ne-eqb (e .kind) arrival (λ z. omega arith), eq-eqb (e .kind) finish k) (one-changes s₁ (e .task) t departing false (t-in (named (omega arith))) refl refl))
       (λ k. rw (ne-eqb (e .kind) arrival (λ z. omega arith), ne-eqb (e .kind) finish (λ z. omega arith))
       (then-quiet s₁ s₁ _ t _ start (request-quiet c (e .task) (e .resource) s₁ (λ z. omega (arith, asks-of s e Q ok k .acts .act)))))
       (λ k. rw (ne-eqb (e .kind) arrival (λ z. omega arith), ne-eqb (e .kind) finish (λ z. omega arith))
       (then-quiet s₁ s₁ _ t _ start (complete-quiet c (grouped s e Q ok) s₁ (steady-of s e Q ok) (e .task) (e .resource) (ends-of s e Q ok k))))
-      (λ k. rw (ne-eqb (e .kind) arrival (λ z. omega arith), ne-eqb (e .kind) finish (λ z. omega arith)) start)
+      (λ k. rw (ne-eqb (e .kind) arrival (λ z. omega arith), ne-eqb (e .kind) finish (λ z. omega arith)) start)) (quiet-with (edited c e s₁) p))
 
 charged-totals : (s : State) (n t : ℕ) → t < mostTasks
     → task (charged n s) t .totals
@@ -112,23 +108,23 @@ charged-totals s n t h = ap (λ (x : Task). x .totals) (table-at _ mostTasks t n
     go false = refl
 
 -- the ticks of an accepted step go to the one total of the situation before it
-pub charges : (s : State) (e : Event) (t : ℕ) → Sound s → judge s e ≡ 0 → t < mostTasks → Charges s e t
-charges s e t Q ok h = comes s e Q ok t .totals ∙ charged-totals s (stepOf s e) t h
+pub charges : (s : State) (pick : Prefers) (e : Event) (t : ℕ) → Sound s → judge s e ≡ 0 → t < mostTasks → Charges s pick e t
+charges s pick e t Q ok h = comes s e Q ok _ (step-does pick s e ok) t .totals ∙ charged-totals s (stepOf s e) t h
 
 -- ---- any event: ticks that go to t's totals where it was pending, and who is pending after
-record Turn (s : State) (e : Event) (t : ℕ) : Type 0 where
+record Turn (s : State) (pick : Prefers) (e : Event) (t : ℕ) : Type 0 where
   ticks : ℕ
-  clock : step s e .state .clock ≡ s .clock + ticks
-  spent : sum (task (step s e .state) t .totals) ≡ sum (task s t .totals) + (if pending s t then ticks else 0)
+  clock : stepBy pick s e .state .clock ≡ s .clock + ticks
+  spent : sum (task (stepBy pick s e .state) t .totals) ≡ sum (task s t .totals) + (if pending s t then ticks else 0)
   begins : (accepts s e arrival && e .task is t) ≡ true → pending s t ≡ false
   ends : (accepts s e finish && e .task is t) ≡ true → pending s t ≡ true
-  pends : pending (step s e .state) t ≡ (if accepts s e arrival && e .task is t then true else if accepts s e finish && e .task is t then false else pending s t)
+  pends : pending (stepBy pick s e .state) t ≡ (if accepts s e arrival && e .task is t then true else if accepts s e finish && e .task is t then false else pending s t)
 
-turn : (s : State) (e : Event) (t : ℕ) → Sound s → Turn s e t
+turn : (s : State) (pick : Prefers) (e : Event) (t : ℕ) → Sound s → Turn s pick e t
 unfolding charged
-turn s e t Q = elim (ℕ-discrete (judge s e) 0) [
+turn s pick e t Q = elim (ℕ-discrete (judge s e) 0) [
   | yes ok ↦
-      let C = comes s e Q ok t in
+      let C = comes s e Q ok _ (step-does pick s e ok) t in
       let same = ap (λ (n : ℕ). n isn't absent) (same-of s e Q ok t .stood) in
       record {
         ticks = stepOf s e;
@@ -141,11 +137,11 @@ turn s e t Q = elim (ℕ-discrete (judge s e) 0) [
       }
   | no d ↦ record {
     ticks = 0;
-    clock = rw (refused s e d) (omega arith);
-    spent = rw (refused s e d) (nothing (pending s t));
+    clock = rw (refused-by pick s e d) (omega arith);
+    spent = rw (refused-by pick s e d) (nothing (pending s t));
     begins = λ x. let z = simp tests at x in absurd (d (z .0 .0));
     ends = λ x. let z = simp tests at x in absurd (d (z .0 .0));
-    pends = rw (refused s e d, ne-eqb (judge s e) 0 d);
+    pends = rw (refused-by pick s e d, ne-eqb (judge s e) 0 d);
   }
 ]
   where
@@ -154,46 +150,55 @@ turn s e t Q = elim (ℕ-discrete (judge s e) 0) [
     nothing false = omega arith
 
 -- ---- any events: where t is pending, since the clock `since`
-sum-for : (es : List Event) (s : State) (t since : ℕ) (p : Bool) → Sound s → pending s t ≡ p → (p ≡ true → since ≤ s .clock)
-    → sum (task (run s es) t .totals) + (if p then s .clock - since else 0) ≡ sum (task s t .totals) + pendingTicks s es t p since
-unfolding run pendingTicks
+sum-for : (ms : List Move) (s : State) (t since : ℕ) (p : Bool) → Sound s → pending s t ≡ p → (p ≡ true → since ≤ s .clock)
+    → sum (task (runBy s ms) t .totals) + (if p then s .clock - since else 0) ≡ sum (task s t .totals) + pendingTicks s ms t p since
+unfolding runBy pendingTicks
 sum-for [] s t since p Q q low = refl
-sum-for (e ∷ es) s t since p Q q low =
-    go (sum-for es (step s e .state) t) (accepts s e arrival && e .task is t) refl (accepts s e finish && e .task is t) refl p q low
+sum-for (m ∷ ms) s t since p Q q low =
+    go (sum-for ms s′ t) (accepts s e arrival && e .task is t) refl (accepts s e finish && e .task is t) refl p q low
   where
-    K : Turn s e t
-    K = turn s e t Q
+    e : Event
+    e = m .event
 
-    go : ((from : ℕ) (p : Bool) → Sound (step s e .state) → pending (step s e .state) t ≡ p → (p ≡ true → from ≤ step s e .state .clock)
-        → sum (task (run (step s e .state) es) t .totals) + (if p then step s e .state .clock - from else 0) ≡ sum (task (step s e .state) t .totals) + pendingTicks (step s e .state) es t p from)
+    s′ : State
+    s′ = moved s m
+
+    K : Turn s (m .prefers) e t
+    K = turn s (m .prefers) e t Q
+
+    Q′ : Sound s′
+    Q′ = step-sound-by (m .prefers) s e Q
+
+    go : ((from : ℕ) (p : Bool) → Sound s′ → pending s′ t ≡ p → (p ≡ true → from ≤ s′ .clock)
+        → sum (task (runBy s′ ms) t .totals) + (if p then s′ .clock - from else 0) ≡ sum (task s′ t .totals) + pendingTicks s′ ms t p from)
         → (a : Bool) → (accepts s e arrival && e .task is t) ≡ a → (b : Bool) → (accepts s e finish && e .task is t) ≡ b
         → (p : Bool) → pending s t ≡ p → (p ≡ true → since ≤ s .clock)
-        → sum (task (run (step s e .state) es) t .totals) + (if p then s .clock - since else 0) ≡ sum (task s t .totals) + pendingTicks s (e ∷ es) t p since
+        → sum (task (runBy s′ ms) t .totals) + (if p then s .clock - since else 0) ≡ sum (task s t .totals) + pendingTicks s (m ∷ ms) t p since
     go ih true x b y true q low = never (K .begins x) q
     go ih true x b y false q low =
-        rw x (omega (arith, ih (step s e .state .clock) true (step-sound s e Q) (rw x at (K .pends)) (λ _. omega arith), rw q at (K .spent)))
+        rw x (omega (arith, ih (s′ .clock) true Q′ (rw x at (K .pends)) (λ _. omega arith), rw q at (K .spent)))
     go ih false x true y true q low =
-        rw (x, y) (omega (arith, ih 0 false (step-sound s e Q) (rw (x, y) at (K .pends)) (λ z. never refl z), rw q at (K .spent), K .clock, low refl))
+        rw (x, y) (omega (arith, ih 0 false Q′ (rw (x, y) at (K .pends)) (λ z. never refl z), rw q at (K .spent), K .clock, low refl))
     go ih false x true y false q low = never q (K .ends y)
     go ih false x false y true q low =
-        rw (x, y) (omega (arith, ih since true (step-sound s e Q) (rw (x, y, q) at (K .pends)) (λ _. omega (arith, K .clock, low refl)), rw q at (K .spent), K .clock, low refl))
+        rw (x, y) (omega (arith, ih since true Q′ (rw (x, y, q) at (K .pends)) (λ _. omega (arith, K .clock, low refl)), rw q at (K .spent), K .clock, low refl))
     go ih false x false y false q low =
-        rw (x, y) (omega (arith, ih since false (step-sound s e Q) (rw (x, y, q) at (K .pends)) (λ z. never refl z), rw q at (K .spent)))
+        rw (x, y) (omega (arith, ih since false Q′ (rw (x, y, q) at (K .pends)) (λ z. never refl z), rw q at (K .spent)))
 
-pub totals-sum : (es : List Event) (s : State) (t since : ℕ) → Sound s → (stand s t ≢ absent → since ≤ s .clock)
-    → sum (task (run s es) t .totals) + (if stand s t isn't absent then s .clock - since else 0) ≡ sum (task s t .totals) + pendingTicks s es t (stand s t isn't absent) since
-totals-sum es s t since Q low = sum-for es s t since (pending s t) Q refl (λ z. low (simp tests at z))
+pub totals-sum : (ms : List Move) (s : State) (t since : ℕ) → Sound s → (stand s t ≢ absent → since ≤ s .clock)
+    → sum (task (runBy s ms) t .totals) + (if stand s t isn't absent then s .clock - since else 0) ≡ sum (task s t .totals) + pendingTicks s ms t (stand s t isn't absent) since
+totals-sum ms s t since Q low = sum-for ms s t since (pending s t) Q refl (λ z. low (simp tests at z))
 
 -- ---- from a set-up, which has no task pending
 begin-none : (c : SetUp) → setUpRefusal c ≡ 0 → (t : ℕ) → task (begin c .state) t ≡ noTask
 unfolding begin fresh
 begin-none c good t = rw (eq-eqb (setUpRefusal c) 0 good) (replicate-at mostTasks t noTask)
 
-pub totals-after : (c : SetUp) → Given c → (es : List Event) (t : ℕ) → sum (task (after c es) t .totals) ≡ pendingTicks (begin c .state) es t false 0
+pub totals-after : (c : SetUp) → Given c → (ms : List Move) (t : ℕ) → sum (task (after c ms) t .totals) ≡ pendingTicks (begin c .state) ms t false 0
 unfolding stand
-totals-after c G es t =
+totals-after c G ms t =
     let s = begin c .state in
     let none = begin-none c (G .accepted) t in
     let gone : pending s t ≡ false = ap (λ (x : Task). standingNo (x .standing) isn't absent) none in
     let zero : sum (task s t .totals) ≡ 0 = ap (λ (x : Task). sum (x .totals)) none in
-    omega (arith, sum-for es s t 0 false (begin-sound c (G .accepted) (G .start)) gone (λ z. never refl z))
+    omega (arith, sum-for ms s t 0 false (begin-sound c (G .accepted) (G .start)) gone (λ z. never refl z))

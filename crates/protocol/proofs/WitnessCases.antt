@@ -1,7 +1,7 @@
 -- Computed with the rules: runs that meet the premises of the theorems, so none of them speaks of nothing. Assumes nothing.
 use Prim.Native.Nat.{_<_}
 use mathlib.Core.Bool.{false}
-use mathlib.Core.List.{List, [], _∷_}
+use mathlib.Core.List.{List, [], _∷_, _++_}
 use mathlib.Core.Path.{_≡_, refl}
 use native.Mathlib.Omega.{arith}
 use Rattle.search.specs.Below.{allBelow, anyBelow, howMany}
@@ -9,8 +9,8 @@ use Rattle.search.specs.First.{first}
 use Rattle.search.specs.Best.{best, better}
 use Rattle.search.specs.Table.{table}
 use Rattle.queue.specs.Waiting.{waiting, waiter as queued, empty, appended, movedUp, withoutFirst, placeOf, isClear as tidyAt, isTidy}
-use Rattle.processors.specs.Words.{rankOf, modeOf, linkOf, runOf, noneLinked}
-use Rattle.scheduler.specs.Arriving.{lowestFree, lowestLinked, displacing, arrivingOn, arriving as linking}
+use Rattle.processors.specs.Words.{link, rankOf, modeOf, linkOf, runOf, noneLinked}
+use Rattle.scheduler.specs.Arriving.{lowestFree, lowestLinked, displacing, arrivingOn, taken, arriving as linking}
 use Rattle.scheduler.specs.Leaving.{becomingPreemptable, nextTask, filling, refilling, leavingFrom, leaving, givingWay}
 use Rattle.placement.specs.PlacedTest.{linkHolds, runHolds, processorHolds, linksHigher, taskHolds, isPlaced}
 use Rattle.input.specs.Limits.{mostTasks, short, long}
@@ -27,12 +27,12 @@ use Rattle.protocol.specs.Situations.{situation}
 use Rattle.protocol.specs.Sound.{clockSound, timesSound, requestsSound, waitingSound, groupSound, emptySound, sound}
 use Rattle.protocol.specs.Refusals.{misplaced, eventRows, judge}
 use Rattle.protocol.specs.Locks.{openOfKind, opens, queues, closes, frees, calls, passes}
-use Rattle.protocol.specs.Events.{arrives, leaves, softens, givesWay, arriveEvent, finishEvent, requestEvent, completeEvent, charged, act, step, run, fresh, begin}
+use Rattle.protocol.specs.Events.{cold, arrives, leaves, softens, givesWay, arriveEvent, finishEvent, requestEvent, completeEvent, charged, act, Move, stepBy, plain, runBy, step, run, fresh, begin}
 use Rattle.protocol.specs.Cases.{given, event}
 use Rattle.protocol.specs.Demands.{Given, after, isRunnable, Waiting, WaitsFor, Before, handsOver, completions, ShortQueue}
 use Rattle.protocol.specs.declared.State.{State}
 use Rattle.protocol.proofs.Begin.{begin-sound}
-use Rattle.protocol.proofs.Step.{run-sound}
+use Rattle.protocol.proofs.Step.{run-sound-by}
 use Rattle.protocol.proofs.Short.{short-queue}
 
 -- ---- four processors and a short resource: 0 holds it, 1 and 2 spin, and 3 asks; later 0 and then 1 complete
@@ -40,9 +40,9 @@ abbrev pub queueing : SetUp
 queueing = given 4 0 (100 ∷ 200 ∷ 300 ∷ 400 ∷ []) (short ∷ []) [] []
 
 abbrev pub inLine : State
-inLine = after queueing (
+inLine = after queueing (plain (
     event arrival 0 0 0 ∷ event arrival 1 0 1 ∷ event arrival 2 0 2 ∷ event arrival 3 0 3
-    ∷ event asking 0 0 4 ∷ event asking 1 0 5 ∷ event asking 2 0 6 ∷ [])
+    ∷ event asking 0 0 4 ∷ event asking 1 0 5 ∷ event asking 2 0 6 ∷ []))
 
 abbrev pub asks : Event
 asks = event asking 3 0 9
@@ -55,16 +55,20 @@ abbrev pub chaining : SetUp
 chaining = given 3 0 (300 ∷ 200 ∷ 100 ∷ []) (long ∷ short ∷ []) [] []
 
 abbrev pub chained : State
-chained = after chaining (
+chained = after chaining (plain (
     event arrival 0 0 0 ∷ event arrival 1 0 1 ∷ event arrival 2 0 2
-    ∷ event asking 1 0 3 ∷ event asking 2 1 4 ∷ event asking 0 0 5 ∷ event asking 1 1 6 ∷ [])
+    ∷ event asking 1 0 3 ∷ event asking 2 1 4 ∷ event asking 0 0 5 ∷ event asking 1 1 6 ∷ []))
 
 -- ---- two processors and three jobs
 abbrev pub crowding : SetUp
 crowding = given 2 0 (100 ∷ 200 ∷ 50 ∷ []) [] [] []
 
 abbrev pub crowded : State
-crowded = after crowding (event arrival 0 0 0 ∷ event arrival 1 0 1 ∷ event arrival 2 0 2 ∷ [])
+crowded = after crowding (plain (event arrival 0 0 0 ∷ event arrival 1 0 1 ∷ event arrival 2 0 2 ∷ []))
+
+-- ---- the same, with processor 1 suggested to the first
+abbrev pub warmed : State
+warmed = after crowding (record { prefers = λ _ _. 1; event = event arrival 0 0 0 } ∷ [])
 
 -- what the rules compute of them
 pub record Computed : Type 0 where
@@ -73,7 +77,7 @@ pub record Computed : Type 0 where
   pub asks-short : kind (inLine .setup) 0 ≡ short
   pub asks-outer : shortOpen (inLine .setup) inLine 3 ≡ false
   pub asks-waits : (len (step inLine asks .state) 0 ≡ 3) × (waiter (step inLine asks .state) 0 2 ≡ 3)
-  pub ends-done : completions (step inLine asks .state) ends 0 ≡ 2
+  pub ends-done : completions (step inLine asks .state) (plain ends) 0 ≡ 2
   pub chaining-accepted : setUpRefusal chaining ≡ 0
   pub first-link : (stand chained 0 ≡ suspended) × (holder chained (groupOf (chained .setup) (asked chained 0)) ≡ 1)
   pub second-link : (stand chained 1 ≡ spinning) × (holder chained (groupOf (chained .setup) (asked chained 1)) ≡ 2)
@@ -81,9 +85,10 @@ pub record Computed : Type 0 where
   pub chained-few : howMany (isRunnable chained) mostTasks ≡ 2
   pub crowding-accepted : setUpRefusal crowding ≡ 0
   pub crowded-many : howMany (isRunnable crowded) mostTasks ≡ 3
+  pub warmed-there : link (warmed .processors) 1 ≡ 0
 
 pub computed : Computed
-unfolding allBelow anyBelow first best better table waiting queued empty appended movedUp withoutFirst placeOf tidyAt isTidy rankOf modeOf linkOf runOf noneLinked lowestFree lowestLinked displacing arrivingOn linking becomingPreemptable nextTask filling refilling leavingFrom leaving givingWay linkHolds runHolds processorHolds linksHigher taskHolds isPlaced setUpRows setUpRefusal joinedBy namesAfter names groupOf below cleared emptyFrom isClear fieldsOf stand asked deadline depth request holder len waiter own leastOf longHeld effective shortOpen jobs situation clockSound timesSound requestsSound waitingSound groupSound emptySound sound misplaced eventRows judge openOfKind opens queues closes frees calls passes arrives leaves softens givesWay arriveEvent finishEvent requestEvent completeEvent charged act step run fresh begin howMany handsOver completions
+unfolding allBelow anyBelow first best better table waiting queued empty appended movedUp withoutFirst placeOf tidyAt isTidy rankOf modeOf linkOf runOf noneLinked lowestFree lowestLinked displacing arrivingOn taken linking becomingPreemptable nextTask filling refilling leavingFrom leaving givingWay linkHolds runHolds processorHolds linksHigher taskHolds isPlaced setUpRows setUpRefusal joinedBy namesAfter names groupOf below cleared emptyFrom isClear fieldsOf stand asked deadline depth request holder len waiter own leastOf longHeld effective shortOpen jobs situation clockSound timesSound requestsSound waitingSound groupSound emptySound sound misplaced eventRows judge openOfKind opens queues closes frees calls passes arrives leaves softens givesWay arriveEvent finishEvent requestEvent completeEvent charged act stepBy step runBy run fresh begin howMany handsOver completions
 computed = record {
   queueing-accepted = refl;
   asks-accepted = refl;
@@ -98,6 +103,7 @@ computed = record {
   chained-few = refl;
   crowding-accepted = refl;
   crowded-many = refl;
+  warmed-there = refl;
 }
 
 pub queueing-given : Given queueing
@@ -114,8 +120,8 @@ pub third-in-line : Before (step inLine asks .state) 0 3 3
 third-in-line = (omega (arith, computed .asks-waits .0), computed .asks-waits .1)
 
 -- so the theorem of short queues speaks of this request
-pub asks-queue : ShortQueue inLine asks (inLine .setup .processors)
-asks-queue = short-queue inLine asks (run-sound (begin queueing .state) _ (begin-sound queueing (computed .queueing-accepted) (omega arith))) (computed .asks-accepted) refl (computed .asks-short) (computed .asks-outer)
+pub asks-queue : ShortQueue inLine cold asks (inLine .setup .processors)
+asks-queue = short-queue inLine cold asks (run-sound-by (begin queueing .state) _ (begin-sound queueing (computed .queueing-accepted) (omega arith))) (computed .asks-accepted) refl (computed .asks-short) (computed .asks-outer)
 
 -- a chain of two links, from a suspended job over a spinning one to one that does not wait
 pub two-links : WaitsFor chained 0 1 × WaitsFor chained 1 2 × (Waiting chained 2 → ⊥)

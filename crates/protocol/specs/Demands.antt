@@ -1,38 +1,48 @@
--- Demand 3 and the totals, as statements about a state, an event or a list of events. `proofs/Theorems` proves each of every run
--- from an accepted set-up, `after`. Nothing else need be read to know what is promised.
+-- Demand 3 and the totals, as statements about a state, an event or a list of events; and each, under a name, as a theorem of every
+-- run from an accepted set-up, `after`. `proofs/Theorems` proves them; nothing else need be read to know what is promised.
 use Prim.Native.Nat.{ℕ, zero, suc, _+_, _-_, _<_, _≤_, min}
 use mathlib.Core.Path.{_≡_}
-use mathlib.Core.Bool.{Bool, true, false, not, _&&_}
+use mathlib.Core.Bool.{Bool, true, false, not, _&&_, _||_}
 use mathlib.Core.List.{List, [], _∷_, _++_}
 use mathlib.Core.Logic.{_≢_, _⊎_, _↔_}
 use lib.Dec.{ltb}
-use lib.ListN.{getD, set}
+use lib.ListN.{getD, set, take}
 use Rattle.search.specs.Words.{if_then_else_, _is_, _isn't_}
 use Rattle.search.specs.Below.{howMany}
 use Rattle.processors.specs.Limits.{processors}
-use Rattle.processors.specs.Words.{link}
+use Rattle.processors.specs.Words.{link, runs}
 use Rattle.input.specs.Limits.{mostTasks, short}
 use Rattle.input.specs.Words.{kind}
 use Rattle.setups.specs.Refusals.{setUpRefusal}
 use Rattle.setups.specs.Naming.{groupOf}
-use Rattle.input.specs.Kinds.{arrival, finish, completion}
+use Rattle.input.specs.Kinds.{arrival, finish, request as asking, completion}
 use Rattle.input.specs.declared.SetUp.{SetUp}
 use Rattle.input.specs.declared.Event.{Event}
-use Rattle.protocol.specs.Words.{nobody, lastClock, absent, spinning, suspended, task, stand, asked, depth, request, holder, len, waiter}
-use Rattle.protocol.specs.Ranks.{effective}
+use Rattle.protocol.specs.Words.{nobody, lastClock, absent, active, spinning, suspended, sum, task, stand, asked, depth, request, holder, len, waiter, group, noTask, noGroup}
+use Rattle.protocol.specs.Sound.{sound}
+use Rattle.protocol.specs.Ranks.{shortOpen, effective}
 use Rattle.protocol.specs.Situations.{situation, totalOf}
 use Rattle.protocol.specs.Refusals.{stepOf, judge}
 use Rattle.protocol.specs.Locks.{openOfKind, closes}
-use Rattle.protocol.specs.Events.{step, run, begin}
+use Rattle.protocol.specs.Events.{Prefers, Move, moved, stepBy, runBy, step, run, begin}
 use Rattle.protocol.specs.declared.State.{State}
+use Rattle.protocol.specs.declared.Reply.{Reply}
 
--- ---- every run: an accepted set-up, and any events, refused ones among them. (A start has four bytes.)
+-- ---- every run: an accepted set-up, and any events, refused ones among them, each with any suggestion of a processor where
+-- someone arrives or resumes. (A start has four bytes.)
 pub record Given (c : SetUp) : Type 0 where
   pub accepted : setUpRefusal c ≡ 0
   pub start : c .start ≤ lastClock
 
-abbrev pub after : SetUp → List Event → State
-after c es = run (begin c .state) es
+abbrev pub after : SetUp → List Move → State
+after c ms = runBy (begin c .state) ms
+
+-- of events alone: the answer to event n of a list, in the state after those before it
+abbrev pub noEvent : Event
+noEvent = record { kind = 0; task = 0; resource = 0; tick = 0 }
+
+abbrev pub replyAt : State → List Event → ℕ → Reply
+replyAt s es n = step (run s (take n es)) (getD es n noEvent)
 
 -- e is accepted in s, and is of a kind
 abbrev pub accepts : State → Event → ℕ → Bool
@@ -72,10 +82,10 @@ Waiting s t = spinning ≤ stand s t
 abbrev pub WaitsFor : State → ℕ → ℕ → Type 0
 WaitsFor s t u = Waiting s t × (u ≢ nobody) × (holder s (groupOf (s .setup) (asked s t)) ≡ u)
 
--- who waits, waits for its group's holder and no other; a chain has at most two links and ends in a job that is not waiting
+-- who waits, waits for its group's holder and no other; a chain has at most two links and ends in a job that is active
 pub record ChainsEnd (s : State) : Type 0 where
   pub one : (t : ℕ) → Waiting s t → (u : ℕ) × WaitsFor s t u × ((v : ℕ) → WaitsFor s t v → v ≡ u)
-  pub two : (t u : ℕ) → WaitsFor s t u → (Waiting s u → ⊥) ⊎ ((v : ℕ) × WaitsFor s u v × (Waiting s v → ⊥))
+  pub two : (t u : ℕ) → WaitsFor s t u → (stand s u ≡ active) ⊎ ((v : ℕ) × WaitsFor s u v × (stand s v ≡ active))
 
 -- ---- short queues
 -- n jobs are before t at group g, the holder among them
@@ -93,33 +103,90 @@ handsOver s e g =
     accepts s e completion && groupOf (s .setup) (e .resource) is g && not (openOfKind (s .setup) (closes (e .task) s) (e .task) (e .resource))
 
 -- how many of the events do so
-unfoldable pub completions : State → List Event → ℕ → ℕ
+unfoldable pub completions : State → List Move → ℕ → ℕ
 completions s [] g = 0
-completions s (e ∷ es) g = (if handsOver s e g then 1 else 0) + completions (step s e .state) es g
+completions s (m ∷ ms) g = (if handsOver s (m .event) g then 1 else 0) + completions (moved s m) ms g
 
 -- e asks, in s, for a short resource while no short request is open, and is accepted: it finds `found` jobs before it, fewer than
 -- m; and after any further events, as many completions of outermost requests there as there were leave n of the `found` before it:
 -- it holds where n is 0, so after exactly `found` completions, and until then waits for what it asked
-pub record ShortQueue (s : State) (e : Event) (m : ℕ) : Type 0 where
+pub record ShortQueue (s : State) (pick : Prefers) (e : Event) (m : ℕ) : Type 0 where
   pub found : ℕ
   pub few : found < m
-  pub later : (es : List Event) (n : ℕ) → completions (step s e .state) es (groupOf (s .setup) (e .resource)) + n ≡ found
-      → let end = run (step s e .state) es in
+  pub later : (ms : List Move) (n : ℕ) → completions (stepBy pick s e .state) ms (groupOf (s .setup) (e .resource)) + n ≡ found
+      → let end = runBy (stepBy pick s e .state) ms in
       Before end (groupOf (s .setup) (e .resource)) (e .task) n × (n ≢ 0 → (stand end (e .task) ≡ spinning) × (asked end (e .task) ≡ e .resource))
 
 -- ---- totals
 -- the ticks that t has been pending, from its accepted arrivals and finishes and their clocks: since the clock `since`, if it is
 -- pending at the start
-unfoldable pub pendingTicks : State → List Event → ℕ → Bool → ℕ → ℕ
+unfoldable pub pendingTicks : State → List Move → ℕ → Bool → ℕ → ℕ
 pendingTicks s [] t pending since = if pending then s .clock - since else 0
-pendingTicks s (e ∷ es) t pending since =
-    let next = step s e .state in
-    if accepts s e arrival && e .task is t then pendingTicks next es t true (next .clock)
-    else if accepts s e finish && e .task is t then (next .clock - since) + pendingTicks next es t false 0
-    else pendingTicks next es t pending since
+pendingTicks s (m ∷ ms) t pending since =
+    let e = m .event in
+    let next = moved s m in
+    if accepts s e arrival && e .task is t then pendingTicks next ms t true (next .clock)
+    else if accepts s e finish && e .task is t then (next .clock - since) + pendingTicks next ms t false 0
+    else pendingTicks next ms t pending since
 
 -- an accepted step's ticks go, for a pending task, to the one total of its situation before the event; else nowhere
-abbrev pub Charges : State → Event → ℕ → Type 0
-Charges s e t =
-    task (step s e .state) t .totals
+abbrev pub Charges : State → Prefers → Event → ℕ → Type 0
+Charges s pick e t =
+    task (stepBy pick s e .state) t .totals
     ≡ (if stand s t isn't absent then set (task s t .totals) (totalOf (situation s t)) (getD (task s t .totals) (totalOf (situation s t)) 0 + stepOf s e) else task s t .totals)
+
+-- ---- the theorems: each of the above, of every run from an accepted set-up
+abbrev pub Always : (SetUp → List Move → Type 0) → Type 0
+Always P = (c : SetUp) → Given c → (ms : List Move) → P c ms
+
+abbrev pub AlwaysSound : Type 0
+AlwaysSound = Always (λ c ms. sound (after c ms) ≡ true)
+
+abbrev pub AlwaysApart : Type 0
+AlwaysApart = Always (λ c ms. PrioritiesApart (after c ms))
+
+abbrev pub AlwaysHighest : Type 0
+AlwaysHighest = Always (λ c ms. LinksHighest (after c ms) (c .processors))
+
+abbrev pub AlwaysOneHolder : Type 0
+AlwaysOneHolder = Always (λ c ms. OneHolder (after c ms))
+
+abbrev pub AlwaysChainsEnd : Type 0
+AlwaysChainsEnd = Always (λ c ms. ChainsEnd (after c ms))
+
+abbrev pub AlwaysOnePlace : Type 0
+AlwaysOnePlace = Always (λ c ms. OnePlace (after c ms))
+
+-- a request for a short resource by a job with no short request open
+abbrev pub AlwaysShortQueue : Type 0
+AlwaysShortQueue = Always (λ c ms.
+    let s = after c ms in
+    (pick : Prefers) (e : Event) → judge s e ≡ 0 → e .kind ≡ asking → kind (s .setup) (e .resource) ≡ short
+    → shortOpen (s .setup) s (e .task) ≡ false → ShortQueue s pick e (c .processors))
+
+abbrev pub AlwaysCharges : Type 0
+AlwaysCharges = Always (λ c ms. (pick : Prefers) (e : Event) (t : ℕ) → judge (after c ms) e ≡ 0 → t < mostTasks → Charges (after c ms) pick e t)
+
+-- the five totals sum to the ticks pending; nobody is pending at the start
+abbrev pub AlwaysSums : Type 0
+AlwaysSums = Always (λ c ms. (t : ℕ) → sum (task (after c ms) t .totals) ≡ pendingTicks (begin c .state) ms t false 0)
+
+-- a refused event can be left out
+abbrev pub RefusedLeftOut : Type 0
+RefusedLeftOut = Always (λ c ms. (m : Move) (ns : List Move) → judge (after c ms) (m .event) ≢ 0 → after c (ms ++ m ∷ ns) ≡ after c (ms ++ ns))
+
+-- ---- a refused event hands back the very state, whatever is suggested; and a refused set-up an empty one: no processors, no task, no
+-- lock, clock 0
+abbrev pub RefusedKeeps : Type 0
+RefusedKeeps = (pick : Prefers) (s : State) (e : Event) → stepBy pick s e .answer ≢ 0 → stepBy pick s e .state ≡ s
+
+pub record IsEmpty (s : State) : Type 0 where
+  pub processors : (s .setup .processors ≡ 0) × (s .processors .count ≡ 0)
+  pub counts : (s .setup .tasks ≡ 0) × (s .setup .resources ≡ 0) × (s .setup .pairs ≡ 0)
+  pub clock : (s .setup .start ≡ 0) × (s .clock ≡ 0)
+  pub links : (k : ℕ) → (link (s .processors) k ≡ nobody) × (runs (s .processors) k ≡ nobody)
+  pub tasks : (t : ℕ) → task s t ≡ noTask
+  pub groups : (g : ℕ) → group s g ≡ noGroup
+
+abbrev pub RefusedIsEmpty : Type 0
+RefusedIsEmpty = (c : SetUp) → setUpRefusal c ≢ 0 → (begin c .answer ≡ setUpRefusal c) × IsEmpty (begin c .state)

@@ -1,7 +1,7 @@
 -- Document 01, 'Events' and 'Tick totals': what an accepted event does. c is the set-up of s.
 use Prim.Native.Nat.{ℕ, _+_}
 use mathlib.Core.Bool.{_||_}
-use mathlib.Core.List.{List, [], _∷_}
+use mathlib.Core.List.{List, [], _∷_, map}
 use lib.ListN.{getD, set, replicate}
 use Rattle.search.specs.Words.{if_then_else_, _is_, _isn't_}
 use Rattle.search.specs.Table.{table}
@@ -10,7 +10,7 @@ use Rattle.processors.specs.declared.Processors.{Processors}
 use Rattle.scheduler.specs.Arriving.{arriving as linking}
 use Rattle.scheduler.specs.Leaving.{becomingPreemptable, leaving, givingWay}
 use Rattle.input.specs.Limits.{mostTasks, mostResources, mostPairs, short}
-use Rattle.input.specs.Words.{period, kind}
+use Rattle.input.specs.Words.{kind}
 use Rattle.setups.specs.Refusals.{setUpRefusal}
 use Rattle.setups.specs.Naming.{groupOf}
 use Rattle.setups.specs.Clearing.{cleared}
@@ -21,7 +21,7 @@ use Rattle.protocol.specs.Words.{nobody, absent, noTask, noGroup, task, 
 use Rattle.protocol.specs.Ranks.{jobs}
 use Rattle.protocol.specs.Situations.{situation, totalOf}
 use Rattle.protocol.specs.Refusals.{stepOf, judge}
-use Rattle.protocol.specs.Locks.{arriving, departing, onTask, openOfKind, opens, queues, closes, frees, nextAt, passes}
+use Rattle.protocol.specs.Locks.{openOfKind, opens, queues, closes, frees, nextAt, passes, arriveEdit, finishEdit}
 use Rattle.protocol.specs.declared.Task.{Task}
 use Rattle.protocol.specs.declared.State.{State}
 use Rattle.protocol.specs.declared.Reply.{Reply}
@@ -30,11 +30,21 @@ use Rattle.protocol.specs.declared.Reply.{Reply}
 abbrev pub withProcessors : Processors → State → State
 withProcessors p s = record { setup = s .setup; clock = s .clock; tasks = s .tasks; groups = s .groups; processors = p }
 
-module _ (c : SetUp) (t : ℕ) (s : State) where
-  -- t arrives or resumes; finishes or suspends; becomes preemptable; gives way
-  unfoldable pub arrives : State
-  arrives = withProcessors (linking (s .processors) (jobs c s) t) s
+-- The processor that is suggested to a task that arrives or resumes in a state: it is taken if it is unlinked, and else the
+-- lowest-numbered unlinked one is.
+abbrev pub Prefers : Type 0
+Prefers = State → ℕ → ℕ
 
+-- the choice of document 01: none is suggested
+abbrev pub cold : Prefers
+cold s t = nobody
+
+-- t arrives or resumes
+unfoldable pub arrives : Prefers → SetUp → ℕ → State → State
+arrives pick c t s = withProcessors (linking (s .processors) (jobs c s) t (pick s t)) s
+
+module _ (c : SetUp) (t : ℕ) (s : State) where
+  -- t finishes or suspends; becomes preemptable; gives way
   unfoldable pub leaves : State
   leaves = withProcessors (leaving (s .processors) (jobs c s) t) s
 
@@ -44,13 +54,13 @@ module _ (c : SetUp) (t : ℕ) (s : State) where
   unfoldable pub givesWay : State
   givesWay = withProcessors (givingWay (s .processors) (jobs c s) t) s
 
-module _ (c : SetUp) (t : ℕ) where
-  -- Arrival: the deadline is arrival plus period.
-  unfoldable pub arriveEvent : State → State
-  arriveEvent s = arrives c t (onTask t (arriving (s .clock) (s .clock + period c t)) s)
+-- Arrival, and finish.
+unfoldable pub arriveEvent : Prefers → SetUp → ℕ → State → State
+arriveEvent pick c t s = arrives pick c t (arriveEdit c t s)
 
+module _ (c : SetUp) (t : ℕ) where
   unfoldable pub finishEvent : State → State
-  finishEvent s = leaves c t (onTask t departing s)
+  finishEvent s = leaves c t (finishEdit t s)
 
   -- Request. Same kind open, or the group free: granted at once. Otherwise a short request spins at the queue's end, and a
   -- long one joins the queue, which raises the holder's priority, then suspends.
@@ -61,18 +71,18 @@ module _ (c : SetUp) (t : ℕ) where
       else if kind c r is short then queues c t r g s
       else leaves c t (queues c t r g s)
 
-  -- Completion. Inner: the request is closed, no more. Outermost short: the queue's first job becomes holder, then the
-  -- completer becomes preemptable. Outermost long: the completer's priority is restored, as the group is free, and it gives
-  -- way; then the queue's first job becomes holder and resumes.
-  unfoldable pub completeEvent : ℕ → State → State
-  completeEvent r s =
-      let g = groupOf c r in
-      let closed = closes t s in
-      let freed = frees g closed in
-      if openOfKind c closed t r then closed
-      else if kind c r is short then softens c t (if len s g is 0 then freed else passes g freed)
-      else if len s g is 0 then givesWay c t freed
-      else arrives c (nextAt s g) (passes g (givesWay c t freed))
+-- Completion. Inner: the request is closed, no more. Outermost short: the queue's first job becomes holder, then the
+-- completer becomes preemptable. Outermost long: the completer's priority is restored, as the group is free, and it gives
+-- way; then the queue's first job becomes holder and resumes.
+unfoldable pub completeEvent : Prefers → SetUp → ℕ → ℕ → State → State
+completeEvent pick c t r s =
+    let g = groupOf c r in
+    let closed = closes t s in
+    let freed = frees g closed in
+    if openOfKind c closed t r then closed
+    else if kind c r is short then softens c t (if len s g is 0 then freed else passes g freed)
+    else if len s g is 0 then givesWay c t freed
+    else arrives pick c (nextAt s g) (passes g (givesWay c t freed))
 
 -- Tick totals: each pending task's ticks go to the total of its situation before the event.
 abbrev pub counting : ℕ → ℕ → Task → Task
@@ -88,24 +98,41 @@ charged n s = record {
 }
 
 -- an accepted event, on the state charged with its ticks
-unfoldable pub act : SetUp → Event → State → State
-act c e s =
-    if e .kind is arrival then arriveEvent c (e .task) s
+unfoldable pub act : Prefers → SetUp → Event → State → State
+act pick c e s =
+    if e .kind is arrival then arriveEvent pick c (e .task) s
     else if e .kind is finish then finishEvent c (e .task) s
     else if e .kind is asking then requestEvent c (e .task) (e .resource) s
-    else if e .kind is completion then completeEvent c (e .task) (e .resource) s
+    else if e .kind is completion then completeEvent pick c (e .task) (e .resource) s
     else s
 
 -- A refused event hands back the same state.
-unfoldable pub step : State → Event → Reply
-step s e =
-    if judge s e is 0 then record { answer = 0; state = act (s .setup) e (charged (stepOf s e) s) }
+unfoldable pub stepBy : Prefers → State → Event → Reply
+stepBy pick s e =
+    if judge s e is 0 then record { answer = 0; state = act pick (s .setup) e (charged (stepOf s e) s) }
     else record { answer = judge s e; state = s }
 
--- the state after a list of events
+-- events, each with what is suggested there, and the state after a list of them
+pub record Move : Type 0 where
+  pub prefers : Prefers
+  pub event : Event
+
+abbrev pub moved : State → Move → State
+moved s m = stepBy (m .prefers) s (m .event) .state
+
+unfoldable pub runBy : State → List Move → State
+runBy s [] = s
+runBy s (m ∷ ms) = runBy (moved s m) ms
+
+-- events alone: nothing is suggested
+unfoldable pub step : State → Event → Reply
+step s e = stepBy cold s e
+
+abbrev pub plain : List Event → List Move
+plain es = map (λ e. record { prefers = cold; event = e }) es
+
 unfoldable pub run : State → List Event → State
-run s [] = s
-run s (e ∷ es) = run (step s e .state) es
+run s es = runBy s (plain es)
 
 -- ---- what a set-up gives: nobody has arrived; a refused one gives an empty state
 abbrev pub noSetUp : SetUp

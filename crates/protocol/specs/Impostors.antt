@@ -11,9 +11,9 @@ use Rattle.protocol.specs.declared.State.{State}
 use Rattle.protocol.specs.declared.Reply.{Reply}
 use Rattle.protocol.specs.Cases.{opening, event₁, event₂, reply₁, reply₂, told}
 
--- refuses everything
-abbrev pub refusing : Reply → State → Event → Reply
-refusing earlier s e = record { answer = 9; state = s }
+-- refuses everything, with whichever number
+abbrev pub refusing : ℕ → Reply → State → Event → Reply
+refusing n earlier s e = record { answer = n; state = s }
 
 -- answers as it should, and hands the state back untouched
 abbrev pub idling : Reply → State → Event → Reply
@@ -31,8 +31,8 @@ abbrev on : ℕ → Reply → ℕ
 on k r = runs (r .state .processors) k
 
 -- at step 1
-pub refusing-differs : refusing reply₁ opening event₁ ≢ reply₁
-refusing-differs e = omega (arith, told .0, ap (λ (r : Reply). r .answer) e)
+pub refusing-differs : (n : ℕ) → n ≢ 0 → refusing n reply₁ opening event₁ ≢ reply₁
+refusing-differs n d e = d (omega (arith, told .0, ap (λ (r : Reply). r .answer) e))
 
 pub idling-differs : idling reply₁ opening event₁ ≢ reply₁
 idling-differs e = omega (arith, told .1, told .2, ap (on 0) e)

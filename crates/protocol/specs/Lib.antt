@@ -8,3 +8,4 @@ pub mod Events
 pub mod Demands
 pub mod Cases
 pub mod Impostors
+pub mod Numbers

@@ -1,14 +1,17 @@
 -- The edits of the locks: tasks and groups alone, without the scheduler's moves. c is the set-up of s.
 use Prim.Native.Nat.{ℕ, zero, suc, _+_, _-_}
-use mathlib.Core.Bool.{Bool, true}
+use mathlib.Core.Bool.{Bool, true, _||_}
 use lib.ListN.{set}
-use Rattle.search.specs.Words.{_is_}
+use Rattle.search.specs.Words.{if_then_else_, _is_}
 use Rattle.search.specs.Below.{anyBelow}
 use Rattle.queue.specs.Waiting.{appended, withoutFirst}
 use Rattle.queue.specs.declared.Queue.{Queue}
-use Rattle.input.specs.Words.{kind}
+use Rattle.input.specs.Words.{period, kind}
+use Rattle.input.specs.Kinds.{arrival, finish, request as asking, completion}
+use Rattle.setups.specs.Naming.{groupOf}
 use Rattle.input.specs.declared.SetUp.{SetUp}
-use Rattle.protocol.specs.Words.{nobody, task, group, asked, depth, request, waiter}
+use Rattle.input.specs.declared.Event.{Event}
+use Rattle.protocol.specs.Words.{nobody, task, group, asked, depth, request, holder, len, waiter}
 use Rattle.protocol.specs.declared.Lock.{Lock}
 use Rattle.protocol.specs.declared.Lock.the-variants.{Short, Long}
 use Rattle.protocol.specs.declared.Standing.{Standing}
@@ -75,3 +78,34 @@ calls g s = withGroup g (group s g .holder) (withoutFirst (group s g .queue)) (o
 -- the next of g becomes holder, and what it asked for is open
 unfoldable pub passes : ℕ → State → State
 passes g s = opens (nextAt s g) (asked s (nextAt s g)) g (calls g s)
+
+-- ---- what an accepted event does to tasks and groups, whatever the scheduler does
+-- an arrival: the deadline is arrival plus period
+abbrev pub arriveEdit : SetUp → ℕ → State → State
+arriveEdit c t s = onTask t (arriving (s .clock) (s .clock + period c t)) s
+
+abbrev pub finishEdit : ℕ → State → State
+finishEdit t s = onTask t departing s
+
+-- a request is open at once, or joins the queue
+unfoldable pub requestEdit : SetUp → ℕ → ℕ → State → State
+requestEdit c t r s =
+    let g = groupOf c r in
+    if openOfKind c s t r || holder s g is nobody then opens t r g s else queues c t r g s
+
+-- a completed request is closed; outermost, the group is free, or its next becomes holder
+unfoldable pub completeEdit : SetUp → ℕ → ℕ → State → State
+completeEdit c t r s =
+    let g = groupOf c r in
+    let closed = closes t s in
+    if openOfKind c closed t r then closed
+    else if len s g is 0 then frees g closed
+    else passes g (frees g closed)
+
+unfoldable pub edited : SetUp → Event → State → State
+edited c e s =
+    if e .kind is arrival then arriveEdit c (e .task) s
+    else if e .kind is finish then finishEdit (e .task) s
+    else if e .kind is asking then requestEdit c (e .task) (e .resource) s
+    else if e .kind is completion then completeEdit c (e .task) (e .resource) s
+    else s

@@ -1,10 +1,10 @@
 -- Under `Placed` a job is linked exactly when it is runnable and fewer runnable jobs than processors are higher. Assumes nothing.
 use Prim.Native.Nat.{ℕ, _<_, _≤_, min}
-use mathlib.Core.Path.{_≡_, sym, ap, subst, _∙_}
+use mathlib.Core.Path.{_≡_, refl, sym, ap, subst, _∙_}
 use mathlib.Core.Bool.{Bool, true}
 use mathlib.Core.Logic.{_≢_, _↔_}
 use native.Mathlib.Omega.{arith}
-use native.Mathlib.Decide.{decLt}
+use native.Mathlib.Decide.{ℕ-discrete, decLt}
 use borrow.Author.Tests.{lt-ltb, le-leb, ltb-true, leb-true, ne-eqb, eqb-false, not-true}
 use Rattle.search.specs.Words.{_isn't_}
 use Rattle.search.specs.Below.{howMany}
@@ -13,7 +13,7 @@ use Rattle.search.proofs.Pigeons.{count-into, count-avoiding, count-onto, count
 use Rattle.processors.specs.Limits.{processors, tasks, nobody}
 use Rattle.processors.specs.Words.{rankOf, link, linkOf, isRunnable, isAhead}
 use Rattle.scheduler.specs.Leaving.{nextTask}
-use Rattle.scheduler.specs.Placed.{Runnable, Settled, Placed}
+use Rattle.scheduler.specs.Placed.{Runnable, Settled, Unlinked, Counted, Placed}
 use Rattle.processors.specs.declared.Jobs.{Jobs}
 use Rattle.processors.specs.declared.Processors.{Processors}
 use Rattle.scheduler.proofs.Finds.{link-here, link-nowhere, next-is}
@@ -106,3 +106,45 @@ module _ (p : Processors) (j : Jobs) (P : Placed p j) where
     | yes y ↦ omega (arith, few, distinct, all-full y)
     | no y ↦ omega (arith, few, distinct, all-linked (omega arith))
   ]
+
+-- and back: what is settled and linked by counting is `Placed`
+module _ (p : Processors) (j : Jobs) (S : Settled p j) (C : Counted p j) where
+  -- who is runnable and unlinked has as many ahead as there are processors
+  many-ahead : (t : ℕ) → Runnable j t → Unlinked p t → p .count ≤ howMany (isAhead j t) tasks
+  many-ahead t R U = elim (decLt (howMany (isAhead j t) tasks) (p .count)) [
+    | yes few ↦ let x = C .highest t (R .task) .1 (R, few) in absurd (U (x .0) (x .1))
+    | no y ↦ omega arith
+  ]
+
+  -- so every processor is linked
+  none-free : (k t : ℕ) → k < p .count → Runnable j t → Unlinked p t → link p k ≢ nobody
+  none-free k t l R U e =
+      let runnable : howMany (isAhead j t) tasks ≤ howMany (isRunnable j) tasks =
+      count-onto (isAhead j t) (isRunnable j) tasks tasks (λ i. i) (λ i b q. (b, and-left (isRunnable j i) _ q)) (λ i m _ _ _ _ z. z) in
+      let linked : howMany (λ i. link p i isn't nobody) processors < p .count =
+      count-avoiding (λ i. link p i isn't nobody) processors (p .count) k (λ i. i) l
+      (λ i _ q. let d : link p i ≢ nobody = eqb-false _ _ (not-true _ q) in (
+        elim (decLt i (p .count)) [ yes y ↦ y | no y ↦ absurd (d (S .beyond i (omega arith) .0)) ],
+        λ z. d (ap (link p) z ∙ e),
+      ))
+      (λ i m _ _ _ _ z. z) in
+      omega (arith, many-ahead t R U, runnable, linked, C .many)
+
+  -- to one of higher priority: else all who are ahead of t would be ahead of it
+  higher : (k t : ℕ) → link p k ≢ nobody → Runnable j t → Unlinked p t → rankOf j (link p k) < rankOf j t
+  higher k t d R U = elim (decLt (rankOf j (link p k)) (rankOf j t)) [
+    | yes y ↦ y
+    | no y ↦
+        let u = link p k in
+        let few = C .highest u (S .linked-runnable k d .task) .0 (k, refl) .1 in
+        let ahead : howMany (isAhead j t) tasks ≤ howMany (isAhead j u) tasks =
+        count-onto (isAhead j t) (isAhead j u) tasks tasks (λ i. i)
+        (λ i b q.
+        let up : rankOf j i < rankOf j t = ltb-true _ _ (and-right (isRunnable j i) _ q) in
+        (b, rw (and-left (isRunnable j i) _ q) (lt-ltb (rankOf j i) (rankOf j u) (omega arith))))
+        (λ i m _ _ _ _ z. z) in
+        absurd (omega (arith, many-ahead t R U, few, ahead))
+  ]
+
+  pub placed-counted : Placed p j
+  placed-counted = record { settled = S; highest = λ k t l R U. (none-free k t l R U, higher k t (none-free k t l R U) R U) }

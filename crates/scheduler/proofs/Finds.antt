@@ -1,20 +1,21 @@
 -- What the searches of the rules find. Assumes nothing.
 use Prim.Native.Nat.{ℕ, _<_, _≤_}
-use mathlib.Core.Path.{_≡_, sym, _∙_}
+use mathlib.Core.Path.{_≡_, refl, sym, _∙_}
+use mathlib.Core.Bool.{Bool, true, false}
 use mathlib.Core.List.{List}
 use mathlib.Core.Logic.{_≢_, ⊎-elim}
 use native.Mathlib.Omega.{arith}
 use native.Mathlib.Nat.{le-refl, le-trans, le-of-lt}
 use native.Mathlib.Decide.{decLt}
 use lib.ListN.{length, getD, List·getD-eq-default}
-use borrow.Author.Tests.{lt-ltb, le-leb, ltb-true, ltb-false, leb-true, eqb-true, eqb-false}
-use Rattle.search.specs.Words.{_is_}
+use borrow.Author.Tests.{lt-ltb, le-ltb, le-leb, ltb-true, ltb-false, leb-true, eq-eqb, eqb-true, eqb-false}
+use Rattle.search.specs.Words.{if_then_else_, _is_}
 use Rattle.search.proofs.Tests.{and-left, and-right}
 use Rattle.search.proofs.Firsts.{first-law}
 use Rattle.search.proofs.Bests.{Best, best-law}
 use Rattle.processors.specs.Limits.{processors, tasks, nobody}
 use Rattle.processors.specs.Words.{rankOf, link, runs, placeOf, linkOf, runOf, isRunnable, isHigher, isUnlinked}
-use Rattle.scheduler.specs.Arriving.{isUsed, isFree, lowestFree, linksLower, lowestLinked}
+use Rattle.scheduler.specs.Arriving.{isUsed, isFree, lowestFree, linksLower, lowestLinked, taken}
 use Rattle.scheduler.specs.Leaving.{nextTask}
 use Rattle.scheduler.specs.Placed.{Runnable, Sized, Unlinked}
 use Rattle.scheduler.specs.Changes.{Chosen}
@@ -71,6 +72,26 @@ lowest-chosen p fits =
       free = λ h. let e = F .here h in (ltb-true _ _ (and-left _ _ e), eqb-true _ _ (and-right (isUsed p _) _ e));
       none = λ h m l e. eqb-false _ _ (rw (lt-ltb _ _ l) at (F .before m (omega arith) (omega arith))) e;
     }
+
+-- ---- and whichever is suggested, one is taken; every unlinked processor is, when it is suggested
+pub taken-chosen : (p : Processors) → p .count ≤ processors → (k : ℕ) → Chosen p (taken p k)
+unfolding taken
+taken-chosen p fits k = go (isFree p k) refl
+  where
+    go : (b : Bool) → isFree p k ≡ b → Chosen p (if b then k else lowestFree p)
+    go true e =
+        let l = ltb-true k (p .count) (and-left _ _ e) in
+        record { free = λ h. (l, eqb-true _ _ (and-right (isUsed p k) _ e)); none = λ h. absurd (omega arith) }
+    go false e = lowest-chosen p fits
+
+pub taken-any : (p : Processors) (k : ℕ) → k < p .count → link p k ≡ nobody → taken p k ≡ k
+unfolding taken
+taken-any p k l e = rw (lt-ltb _ _ l, eq-eqb (link p k) nobody e)
+
+-- no processor is suggested: the lowest-numbered
+pub taken-lowest : (p : Processors) (k : ℕ) → p .count ≤ k → taken p k ≡ lowestFree p
+unfolding taken
+taken-lowest p k h = rw (le-ltb k (p .count) h)
 
 -- ---- the processor with the lowest-priority link
 pub lowest-is : (p : Processors) (j : Jobs) → Best (isUsed p) (λ a b. rankOf j (link p a) ≤ rankOf j (link p b)) processors processors (lowestLinked p j)

@@ -4,23 +4,24 @@ use mathlib.Core.Path.{_≡_, refl, subst, _∙_}
 use mathlib.Core.Bool.{Bool, true, false, _&&_}
 use mathlib.Core.Logic.{_≢_, _⊎_, inl, _↔_}
 use native.Mathlib.Omega.{arith}
+use native.Mathlib.Decide.{decLt}
 use lib.Dec.{ltb}
 use Rattle.search.specs.Words.{if_then_else_, _isn't_}
 use Rattle.search.specs.Below.{howMany}
 use Rattle.search.proofs.Tables.{replicate-at}
 use Rattle.processors.specs.Limits.{processors, tasks, nobody, preemptable, nonPreemptable}
 use Rattle.processors.specs.Words.{link, runs, linkOf, runOf, modeOf, isRunnable, isHigher, isAhead, isAwaited, noneLinked, placeOn}
-use Rattle.scheduler.specs.Arriving.{lowestFree, lowestLinked, isPreempted, displacing, arrivingOn, arriving}
+use Rattle.scheduler.specs.Arriving.{lowestLinked, isPreempted, displacing, arrivingOn, taken, arriving}
 use Rattle.scheduler.specs.Leaving.{becomingPreemptable, nextTask, filling, refilling, leavingFrom, leaving, givingWay}
-use Rattle.scheduler.specs.Placed.{Runnable, Sized, Placed, LinkedOnly}
+use Rattle.scheduler.specs.Placed.{Runnable, Sized, Settled, Counted, Placed, Served, LinkedOnly}
 use Rattle.scheduler.specs.Changes.{Alike, Joins, Hardens, Softens, Raises, Leaves, Lowers, Chosen}
 use Rattle.processors.specs.declared.Jobs.{Jobs}
 use Rattle.processors.specs.declared.Processors.{Processors}
-use Rattle.scheduler.proofs.Finds.{link-here, link-somewhere, run-here, run-somewhere, lowest-chosen}
+use Rattle.scheduler.proofs.Finds.{link-here, link-somewhere, run-here, run-somewhere, taken-chosen}
 use Rattle.scheduler.proofs.Coming.{coming-placed}
 use Rattle.scheduler.proofs.Going.{raised-placed, gives-way-placed}
 use Rattle.scheduler.proofs.Staying.{alike-placed, harden-placed, soften-placed}
-use Rattle.scheduler.proofs.Counting.{linked-counted, linked-many}
+use Rattle.scheduler.proofs.Counting.{linked-counted, linked-many, placed-counted}
 use Rattle.scheduler.proofs.Waits.{coming-waits, soften-waits, going-waits, gives-way-waits}
 
 -- ---- where a task is
@@ -66,10 +67,10 @@ module _ (p : Processors) (j j′ : Jobs) (P : Placed p j) where
     pub arriving-on-law : Joins j j′ t → (k : ℕ) → Chosen p k → Placed (arrivingOn p j′ t k) j′
     arriving-on-law J k C = coming-placed p j j′ t P J k C
 
-    -- on the lowest-numbered one
-    pub arriving-law : Joins j j′ t → Placed (arriving p j′ t) j′
+    -- whichever is suggested
+    pub arriving-law : Joins j j′ t → (k : ℕ) → Placed (arriving p j′ t k) j′
     unfolding arriving
-    arriving-law J = coming-placed p j j′ t P J (lowestFree p) (lowest-chosen p (P .settled .fits))
+    arriving-law J k = coming-placed p j j′ t P J (taken p k) (taken-chosen p (P .settled .fits) k)
 
     module _ (t-in : t < tasks) (on : runOf p t < processors) where
       -- t, running, becomes non-preemptable
@@ -108,6 +109,10 @@ module _ (p : Processors) (j j′ : Jobs) (P : Placed p j) where
 pub linked-many-law : (p : Processors) (j : Jobs) → Placed p j → howMany (λ k. link p k isn't nobody) processors ≡ min (p .count) (howMany (isRunnable j) tasks)
 linked-many-law p j P = linked-many p j P
 
+-- the counting form of `Placed` and `Placed` say the same
+pub counted-law : (p : Processors) (j : Jobs) → Settled p j → Placed p j ↔ Counted p j
+counted-law p j S = ((λ P. record { highest = λ t l. linked-counted p j t P l; many = linked-many p j P }), λ C. placed-counted p j S C)
+
 module _ (p : Processors) (j : Jobs) (P : Placed p j) (t : ℕ) (t-in : t < tasks) where
   -- linked exactly when runnable with fewer than `count` runnable tasks of lower rank
   pub linked-law : ((k : ℕ) × (link p k ≡ t)) ↔ (Runnable j t × (howMany (isAhead j t) tasks < p .count))
@@ -119,10 +124,22 @@ module _ (p : Processors) (j : Jobs) (P : Placed p j) (t : ℕ) (t-in : t < task
   pub nonpreemptable-running : modeOf j t ≡ nonPreemptable → runOf p t < processors
   nonpreemptable-running e = running-iff p (P .settled .sized) t t-in .1 (P .settled .nonpreemptable-runs t t-in e)
 
+pub served-law : (p : Processors) (j : Jobs) → Placed p j → Served p j
+served-law p j P = record {
+  runnable = λ t l. running-runnable p j P t l;
+  hard = λ t l e.
+      let there = runs-there p t (nonpreemptable-running p j P t l e) in
+      (elim (decLt (runOf p t) (p .count)) [ yes y ↦ y | no y ↦ absurd (omega (arith, P .settled .beyond (runOf p t) (omega arith) .1)) ], there);
+}
+
 -- ---- what the moves leave alone: who is linked but not running after a move was so before it, or is the one that arrived
 module _ (p : Processors) (j : Jobs) (P : Placed p j) (t u : ℕ) (j′ : Jobs) where
   pub arriving-on-waits : (k : ℕ) → LinkedOnly (arrivingOn p j′ t k) u → (u ≡ t) ⊎ LinkedOnly p u
   arriving-on-waits k X = coming-waits p j P t u j′ k X
+
+  pub arriving-waits : (k : ℕ) → LinkedOnly (arriving p j′ t k) u → (u ≡ t) ⊎ LinkedOnly p u
+  unfolding arriving
+  arriving-waits k X = coming-waits p j P t u j′ (taken p k) X
 
   pub softening-waits : LinkedOnly (becomingPreemptable p t) u → LinkedOnly p u
   softening-waits X = soften-waits p j P t u X
@@ -145,9 +162,9 @@ module _ (p : Processors) (j : Jobs) (t : ℕ) where
       let l = lowestLinked p j in
       if-count (ltb k processors) _ _ _ refl (if-count (ltb l processors && isHigher j t (link p l)) _ _ _ (if-count (isPreempted p j l) _ _ _ refl refl) refl)
 
-  pub arriving-count : arriving p j t .count ≡ p .count
+  pub arriving-count : (k : ℕ) → arriving p j t k .count ≡ p .count
   unfolding arriving
-  arriving-count = arriving-on-count (lowestFree p)
+  arriving-count k = arriving-on-count (taken p k)
 
   pub softening-count : becomingPreemptable p t .count ≡ p .count
   unfolding becomingPreemptable

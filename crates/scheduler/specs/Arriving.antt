@@ -41,10 +41,14 @@ displacing p j t k =
     if isPreempted p j k then placeOn p k t else linkOn p k t
     else p
 
--- With an unlinked processor k, link to it and run there. k is the one chosen, or `processors` where there is none.
+-- With an unlinked processor k, link to it and run there. k is the one taken, or `processors` where there is none.
 unfoldable pub arrivingOn : Processors → Jobs → ℕ → ℕ → Processors
 arrivingOn p j t k = if ltb k processors then placeOn p k t else displacing p j t (lowestLinked p j)
 
--- The choice of document 01: the lowest-numbered such processor.
-unfoldable pub arriving : Processors → Jobs → ℕ → Processors
-arriving p j t = arrivingOn p j t (lowestFree p)
+-- the processor taken where k is suggested: k, if it is unlinked; else the lowest-numbered such processor
+unfoldable pub taken : Processors → ℕ → ℕ
+taken p k = if isFree p k then k else lowestFree p
+
+-- t arrives or resumes, and processor k is suggested; `nobody` suggests none, which is the choice of document 01
+unfoldable pub arriving : Processors → Jobs → ℕ → ℕ → Processors
+arriving p j t k = arrivingOn p j t (taken p k)

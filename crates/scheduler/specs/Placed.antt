@@ -1,10 +1,12 @@
 -- The scheduler's part of the sound state: what holds of links and placements between events.
-use Prim.Native.Nat.{ℕ, _<_, _≤_}
+use Prim.Native.Nat.{ℕ, _<_, _≤_, min}
 use mathlib.Core.Path.{_≡_}
-use mathlib.Core.Logic.{_≢_}
+use mathlib.Core.Logic.{_≢_, _↔_}
 use lib.ListN.{length}
+use Rattle.search.specs.Words.{_isn't_}
+use Rattle.search.specs.Below.{howMany}
 use Rattle.processors.specs.Limits.{processors, tasks, nobody, preemptable, nonPreemptable}
-use Rattle.processors.specs.Words.{link, runs, rankOf, modeOf}
+use Rattle.processors.specs.Words.{link, runs, runOf, rankOf, modeOf, isRunnable, isAhead}
 use Rattle.processors.specs.declared.Jobs.{Jobs}
 use Rattle.processors.specs.declared.Processors.{Processors}
 
@@ -46,6 +48,18 @@ pub record Placed (p : Processors) (j : Jobs) : Type 0 where
   pub settled : Settled p j
   -- where a runnable job is unlinked, every processor has a link of higher priority
   pub highest : (k t : ℕ) → k < p .count → Runnable j t → Unlinked p t → (link p k ≢ nobody) × (rankOf j (link p k) < rankOf j t)
+
+-- the same by counting: linked are the runnable jobs with fewer than `count` runnable jobs of higher priority, as many as there are
+-- processors or runnable jobs, if fewer
+pub record Counted (p : Processors) (j : Jobs) : Type 0 where
+  pub highest : (t : ℕ) → t < tasks → ((k : ℕ) × (link p k ≡ t)) ↔ (Runnable j t × (howMany (isAhead j t) tasks < p .count))
+  pub many : howMany (λ k. link p k isn't nobody) processors ≡ min (p .count) (howMany (isRunnable j) tasks)
+
+-- What is owed, by this scheduler or another, to those above it: who runs is runnable, and every non-preemptable job runs, on one of
+-- the processors that there are.
+pub record Served (p : Processors) (j : Jobs) : Type 0 where
+  pub runnable : (t : ℕ) → t < tasks → runOf p t < processors → Runnable j t
+  pub hard : (t : ℕ) → t < tasks → modeOf j t ≡ nonPreemptable → (runOf p t < p .count) × (runs p (runOf p t) ≡ t)
 
 -- t is linked but not running
 pub record LinkedOnly (p : Processors) (t : ℕ) : Type 0 where

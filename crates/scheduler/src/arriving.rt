@@ -14,7 +14,7 @@ ghost use Rattle.search.specs.First.{bit, mask};
 ghost use Rattle.search.specs.Best.{better};
 ghost use Rattle.processors.specs.Limits.{processors};
 ghost use Rattle.processors.specs.Words.{link};
-ghost use Rattle.scheduler.specs.Arriving.{isUsed, isFree, linksLower, lowestLinked, isPreempted, displacing, arriving};
+ghost use Rattle.scheduler.specs.Arriving.{isUsed, isFree, lowestFree, linksLower, lowestLinked, isPreempted, displacing, taken, arriving};
 
 fn is_free(p: Processors, k: usize) -> bool
     ensures { λ r. ⌜ r ≡ isFree p k ⌝ }
@@ -93,13 +93,32 @@ fn displace(p: Processors, jobs: Jobs, t: u8, k: usize) -> Processors
     }
 }
 
-pub fn arrive(p: Processors, jobs: Jobs, t: u8) -> Processors
-    ensures { λ r. ⌜ r ≡ arriving p jobs t ⌝ }
+// The lowest-numbered unlinked processor, or `Processors::LIMIT`.
+fn lowest_free(p: Processors) -> usize
+    ensures { λ r. ⌜ r ≡ lowestFree p ⌝ }
 {
     let free = free_mask(p);
     if u32::count_ones(free) > 0 {
-        let k = u32::trailing_zeros(free) as usize;
-        place_on(p, k, t)
+        u32::trailing_zeros(free) as usize
+    } else {
+        Processors::LIMIT
+    }
+}
+
+// Processor `k`, if it is unlinked; else the lowest-numbered one that is.
+fn take(p: Processors, k: usize) -> usize
+    ensures { λ r. ⌜ r ≡ taken p k ⌝ }
+{
+    if is_free(p, k) { k } else { lowest_free(p) }
+}
+
+// The job of `t` arrives or resumes, and `jobs` has it so: on processor `k` if it is unlinked. `Processors::NOBODY` suggests none.
+pub fn arrive(p: Processors, jobs: Jobs, t: u8, k: u8) -> Processors
+    ensures { λ r. ⌜ r ≡ arriving p jobs t k ⌝ }
+{
+    let taken = take(p, k as usize);
+    if taken < Processors::LIMIT {
+        place_on(p, taken, t)
     } else {
         displace(p, jobs, t, lowest_linked(p, jobs))
     }

@@ -1,7 +1,8 @@
-pub mod Tests
+pub mod Bests
+pub mod Determined
 pub mod Firsts
 pub mod Masks
-pub mod Bests
 pub mod Pigeons
 pub mod Refusals
 pub mod Tables
+pub mod Tests

@@ -7,13 +7,10 @@ use mathlib.Core.Bool.{Bool, true, false}
 use mathlib.Core.List.{List, [], _∷_}
 use mathlib.Core.Logic.{_≢_, _↔_}
 use lib.ListN.{length, getD}
-use borrow.Author.Tests.{eqb-false, not-true}
-use Rattle.search.specs.Words.{if_then_else_, _isn't_}
-use Rattle.search.specs.Rows.{Row, firstOf, isNumbered}
-use Rattle.search.proofs.Tests.{and-left, and-right}
-
-abbrev pub noRow : Row
-noRow = (0, false)
+use borrow.Author.Tests.{eqb-true, eqb-false, not-true}
+use Rattle.search.specs.Words.{if_then_else_, _is_, _isn't_}
+use Rattle.search.specs.Rows.{Row, noRow, firstOf, isNumbered, isMissing, standsAt, FirstAt}
+use Rattle.search.proofs.Tests.{never, and-left, and-right}
 
 -- row i is numbered n and applies, and no earlier row does
 pub record Given (rows : List Row) (n : ℕ) : Type 0 where
@@ -74,3 +71,39 @@ of-none (row ∷ rows) f = rw (f 0 (omega arith)) (of-none rows (λ k l. f (suc 
 -- the answer is 0 exactly when no row applies, where every row has a number
 pub none-iff : (rows : List Row) → isNumbered rows ≡ true → (firstOf rows ≡ 0) ↔ NoneApplies rows
 none-iff rows t = (none-of rows t, of-none rows)
+
+-- ---- a number that stands at one place
+missing : (rows : List Row) (n : ℕ) → n ≢ 0 → isMissing rows n ≡ true → firstOf rows ≢ n
+missing [] n d m e = d (sym e)
+missing (row ∷ rows) n d m e = go (row .1) refl (missing rows n d (and-right (row .0 isn't n) _ m))
+  where
+    go : (b : Bool) → row .1 ≡ b → firstOf rows ≢ n → ⊥
+    go true q ih = eqb-false (row .0) n (not-true _ (and-left _ _ m)) (rw q at e)
+    go false q ih = ih (rw q at e)
+
+first-there : (rows : List Row) (n i : ℕ) → n ≢ 0 → standsAt rows n i ≡ true → firstOf rows ≡ n → FirstAt rows i
+first-there [] n i d m e = never refl m
+first-there (row ∷ rows) n zero d m e = go (row .1) refl
+  where
+    go : (b : Bool) → row .1 ≡ b → FirstAt (row ∷ rows) 0
+    go true q = record { applies = q; earlier = λ k l. absurd (not-suc-le-zero l) }
+    go false q = absurd (missing rows n d (and-right (row .0 is n) _ m) (rw q at e))
+first-there (row ∷ rows) n (suc i) d m e = go (row .1) refl (first-there rows n i d (and-right (row .0 isn't n) _ m))
+  where
+    go : (b : Bool) → row .1 ≡ b → (firstOf rows ≡ n → FirstAt rows i) → FirstAt (row ∷ rows) (suc i)
+    go true q ih = absurd (eqb-false (row .0) n (not-true _ (and-left _ _ m)) (rw q at e))
+    go false q ih = let F = ih (rw q at e) in record { applies = F .applies; earlier = λ k l. below k l F }
+      where
+        below : (k : ℕ) → k < suc i → FirstAt rows i → getD (row ∷ rows) k noRow .1 ≡ false
+        below zero l F = q
+        below (suc k) l F = F .earlier k (le-of-suc-le-suc l)
+
+there-first : (rows : List Row) (n i : ℕ) → standsAt rows n i ≡ true → FirstAt rows i → firstOf rows ≡ n
+there-first [] n i m F = never refl m
+there-first (row ∷ rows) n zero m F = rw (F .applies) (eqb-true (row .0) n (and-left (row .0 is n) _ m))
+there-first (row ∷ rows) n (suc i) m F = rw (F .earlier 0 (omega arith))
+    (there-first rows n i (and-right (row .0 isn't n) _ m) (record { applies = F .applies; earlier = λ k l. F .earlier (suc k) (omega arith) }))
+
+-- the answer is n exactly when row i is the first that applies, where n is that row's number and no other's
+pub number-iff : (rows : List Row) (n i : ℕ) → n ≢ 0 → standsAt rows n i ≡ true → (firstOf rows ≡ n) ↔ FirstAt rows i
+number-iff rows n i d m = (first-there rows n i d m, there-first rows n i m)

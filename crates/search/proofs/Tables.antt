@@ -3,11 +3,11 @@ use Prim.Native.Nat.{ℕ, zero, suc, _+_, _<_, _≤_}
 use native.Mathlib.Nat.{not-suc-le-zero}
 use native.Mathlib.Numerals.{add-one}
 use native.Mathlib.Omega.{arith}
-use native.Mathlib.Decide.{ℕ-discrete}
+use native.Mathlib.Decide.{ℕ-discrete, decLt}
 use mathlib.Core.Path.{_≡_, refl, sym, _∙_}
 use mathlib.Core.List.{List, [], _∷_, _++_, append-assoc, append-nil}
-use lib.ListN.{length, getD, set, drop, replicate, length-append, List·getD-append, List·getD-eq-default, drop-of-length-le}
-use lib.Seq.{getD-at, set-at, drop-cons, ext-getD}
+use lib.ListN.{length, getD, set, take, drop, replicate, length-append, List·getD-append, List·getD-eq-default, drop-of-length-le}
+use lib.Seq.{getD-at, set-at, drop-cons, ext-getD, take-all, take-append-le}
 use Rattle.search.specs.Table.{table}
 
 -- an element that is there is read with any default
@@ -39,6 +39,15 @@ module _ {ℓ} {A : Type ℓ} (f : ℕ → A) where
 
   pub table-past : (n i : ℕ) (d : A) → n ≤ i → getD (table f n) i d ≡ d
   table-past n i d h = List·getD-eq-default (table f n) d (omega (arith, table-length n))
+
+  -- the first places of a table are a table
+  pub table-front : (n m : ℕ) → n ≤ m → take n (table f m) ≡ table f n
+  unfolding table
+  table-front n zero h = let e : n ≡ 0 = omega arith in rw e
+  table-front n (suc m) h = elim (decLt m n) [
+    | yes l ↦ let e : n ≡ suc m = omega arith in rw e (take-all (suc m) (table f (suc m)) (omega (arith, table-length (suc m))))
+    | no l ↦ take-append-le n (table f m) (f m ∷ []) (omega (arith, table-length m)) ∙ table-front n m (omega arith)
+  ]
 
   -- a list of n places with f i at each place is the table
   pub table-of : (l : List A) (n : ℕ) (d : A) → length l ≡ n → ((i : ℕ) → i < n → getD l i d ≡ f i) → l ≡ table f n

@@ -1,8 +1,10 @@
 -- A list of refusals: rows of a number and the test that gives it, of which the first that applies is given.
-use Prim.Native.Nat.{ℕ}
-use mathlib.Core.Bool.{Bool, true, _&&_}
+use Prim.Native.Nat.{ℕ, zero, suc, _<_}
+use mathlib.Core.Path.{_≡_}
+use mathlib.Core.Bool.{Bool, true, false, _&&_}
 use mathlib.Core.List.{List, [], _∷_}
-use Rattle.search.specs.Words.{if_then_else_, _isn't_}
+use lib.ListN.{getD}
+use Rattle.search.specs.Words.{if_then_else_, _is_, _isn't_}
 
 infix 28 _when_
 infixr 20 _otherwise_
@@ -24,3 +26,21 @@ firstOf (row ∷ rows) = if row .1 then row .0 else firstOf rows
 abbrev pub isNumbered : List Row → Bool
 isNumbered [] = true
 isNumbered (row ∷ rows) = row .0 isn't 0 && isNumbered rows
+
+-- no row is numbered n; and n is the number of row i and of no other. Both compute, whatever the rows' tests are
+abbrev pub isMissing : List Row → ℕ → Bool
+isMissing [] n = true
+isMissing (row ∷ rows) n = row .0 isn't n && isMissing rows n
+
+abbrev pub standsAt : List Row → ℕ → ℕ → Bool
+standsAt [] n i = false
+standsAt (row ∷ rows) n zero = row .0 is n && isMissing rows n
+standsAt (row ∷ rows) n (suc i) = row .0 isn't n && standsAt rows n i
+
+abbrev pub noRow : Row
+noRow = (0, false)
+
+-- row i applies, and no earlier one does
+pub record FirstAt (rows : List Row) (i : ℕ) : Type 0 where
+  pub applies : getD rows i noRow .1 ≡ true
+  pub earlier : (k : ℕ) → k < i → getD rows k noRow .1 ≡ false

@@ -3,3 +3,4 @@ pub mod Cleared
 pub mod Emptied
 pub mod Lists
 pub mod Names
+pub mod Numbers

@@ -4,3 +4,4 @@ pub mod Groups
 pub mod Naming
 pub mod Refusals
 pub mod Sized
+pub mod Numbers

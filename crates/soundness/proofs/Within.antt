@@ -16,10 +16,11 @@ use Rattle.input.specs.Words.{period}
 use Rattle.setups.specs.Refusals.{setUpRefusal}
 use Rattle.setups.proofs.Accepted.{accepted-iff}
 use Rattle.protocol.specs.Words.{mostRequests, noTask, task, group, stand, deadline, depth}
+use Rattle.protocol.specs.Ranks.{jobs}
 use Rattle.protocol.specs.Sound.{clockSound, timesSound, requestsSound, groupSound}
 use Rattle.protocol.specs.declared.Task.{Task}
 use Rattle.protocol.specs.declared.State.{State}
-use Rattle.views.specs.Bounds.{latest, isBounded}
+use Rattle.views.specs.Bounds.{latest, isBounded, jobsWithin}
 use Rattle.soundness.specs.Parts.{frameSound, locksSound}
 
 pub tidy-len : (q : Queue) → isTidy q ≡ true → q .len ≤ capacity
@@ -67,3 +68,8 @@ module _ (s : State) where
       let opens = allBelow-at mostTasks (requestsSound (s .setup) s) (locks .0 .0) in
       let groups = allBelow-at mostResources (groupSound (s .setup) s) (locks .1) in
       simp tests ((accepted .resources, λ t h. (dated-within (frame .0 .1) t (p t) (dates t h), open-few t (opens t h))), λ g h. len-within g (groups g h))
+
+  -- so where the placement is tested, the view that the code tells is the rule's
+  pub view-ruled : ((t : ℕ) → period (s .setup) t < 65536) → frameSound s ≡ true → locksSound s ≡ true → jobsWithin s ≡ jobs (s .setup) s
+  unfolding jobsWithin
+  view-ruled p f l = rw (within p f l)

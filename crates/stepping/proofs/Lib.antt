@@ -1,3 +1,6 @@
+pub mod Answers
+pub mod Files
+pub mod Openings
 pub mod Parts
 pub mod Printed
 pub mod Records

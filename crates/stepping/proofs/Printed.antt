@@ -5,16 +5,18 @@ use mathlib.Core.Bool.{false}
 use mathlib.Core.List.{List}
 use native.Mathlib.Omega.{arith}
 use lib.ListN.{length, take, drop}
+use Rattle.search.proofs.Determined.{determined}
 use Rattle.input.specs.Layout.{eventCount}
 use Rattle.protocol.specs.declared.State.{State}
 use Rattle.states.specs.Writing.{lineSize}
+use Rattle.locking.specs.declared.Played.{Played}
 use Rattle.locking.specs.Playing.{playable, playedTo, writtenTo, played}
 use Rattle.states.proofs.Writing.{written-long}
 use Rattle.blocks.specs.Sizes.{mostEvents}
 use Rattle.texts.specs.Texts.{Put}
 use Rattle.texts.specs.Lines.{lineLimit, lineInto, narrow}
 use Rattle.texts.specs.declared.Line.{Line}
-use Rattle.stepping.specs.Pages.{wide, eventsText, eventPage, pageLimit, paged}
+use Rattle.stepping.specs.Pages.{wide, eventsText, eventPage, pageLimit, paged, pageInto}
 use Rattle.stepping.specs.declared.Session.{Session}
 use Rattle.stepping.specs.declared.Page.{Page}
 use Rattle.stepping.proofs.Parts.{line-given}
@@ -41,21 +43,28 @@ module _ {x : Session} (text out : List ℕ) {after : List ℕ} {page : Page} wh
 
 -- every event of a block's part is played
 play-all : (s : State) (part out : List ℕ) → eventCount part ≤ mostEvents → lineSize * mostEvents ≤ length out
-    → played s part out ≡ (playedTo s part (eventCount part), writtenTo s part out (eventCount part))
+    → played s part out ≡ (record { state = playedTo s part (eventCount part); count = eventCount part }, writtenTo s part out (eventCount part))
 unfolding played playable
 play-all s part out few room =
     let all : min (eventCount part) (length out / lineSize) ≡ eventCount part = omega arith in
     rw all
 
 -- the lines of what was written of each event, in a buffer with room for all, are a page
-pub page-events : (x : Session) (part buffer out : List ℕ) {state : State} {filled : List ℕ} {count events len : ℕ} {after : List ℕ}
+pub page-events : (x : Session) (part buffer out : List ℕ) {done : Played} {filled : List ℕ} {count events len : ℕ} {after : List ℕ}
     → eventCount part ≤ mostEvents → lineSize * mostEvents ≤ length buffer → pageLimit ≤ length out
-    → (state, filled) ≡ played (x .state) part buffer → count ≡ eventCount part → events ≡ (x .events + count) % wide
+    → (done, filled) ≡ played (x .state) part buffer → count ≡ eventCount part → events ≡ (x .events + count) % wide
     → Put out 0 (eventsText (λ n. take lineSize (drop (lineSize * n) filled)) (x .state .setup .processors) (x .events) count) len after → len ≤ lineLimit * count
-    → Printed (eventPage x part) out (record { session = record { index = x .index + 1; events = events; over = false; state = state }; number = 0; len = len }) after
-page-events x part buffer out {state} {filled} {count} {events} {len} {after} few fits room done counted numbered put short =
-    let all = done ∙ play-all (x .state) part buffer few fits in
-    let kept : state ≡ playedTo (x .state) part (eventCount part) = ap (λ (y : State × List ℕ). y .0) all in
-    let bytes : filled ≡ writtenTo (x .state) part buffer (eventCount part) = ap (λ (y : State × List ℕ). y .1) all in
+    → Printed (eventPage x part) out (record { session = record { index = x .index + 1; events = events; over = false; state = done .state }; number = 0; len = len }) after
+page-events x part buffer out {done} {filled} {count} {events} {len} {after} few fits room made counted numbered put short =
+    let all = made ∙ play-all (x .state) part buffer few fits in
+    let kept : done .state ≡ playedTo (x .state) part (eventCount part) = ap (λ (y : Played × List ℕ). y .0 .state) all in
+    let bytes : filled ≡ writtenTo (x .state) part buffer (eventCount part) = ap (λ (y : Played × List ℕ). y .1) all in
     let same = lines-back (x .state) part buffer (x .state .setup .processors) (x .events) (eventCount part) (omega (arith, few, fits)) in
     page-put _ out (rw (kept, numbered, counted)) (rw (counted, bytes, same) at put) (omega (arith, few, room, counted, short))
+
+-- ---- what the contract of `next_page` allows is one result
+abbrev pub Allowed : Session → List ℕ → List ℕ → Page × List ℕ → Type 0
+Allowed x read out r = (r ≡ pageInto x read out) × (r .0 .len ≤ length (r .1))
+
+pub next-page-determined : (x : Session) (read out : List ℕ) (r q : Page × List ℕ) → Allowed x read out r → Allowed x read out q → r ≡ q
+next-page-determined x read out r q a b = determined r q (a .0) (b .0)

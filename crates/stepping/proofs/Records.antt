@@ -15,7 +15,7 @@ use Rattle.stepping.specs.Pages.{eventsText}
 use Rattle.stepping.proofs.Parts.{written-there, written-before}
 
 -- the same texts below k, one behind another
-each-same : (f g : ℕ → List ℕ) (k : ℕ) → ((n : ℕ) → n < k → f n ≡ g n) → eachText f k ≡ eachText g k
+pub each-same : (f g : ℕ → List ℕ) (k : ℕ) → ((n : ℕ) → n < k → f n ≡ g n) → eachText f k ≡ eachText g k
 unfolding eachText
 each-same f g zero same = refl
 each-same f g (suc k) same = ap (λ l. l ++ f k) (each-same f g k (λ n h. same n (omega arith))) ∙ ap (λ l. eachText g k ++ l) (same k (omega arith))

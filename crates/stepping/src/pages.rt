@@ -79,7 +79,8 @@ fn event_page(x: Session, part: &[u8], out: &mut [u8]) -> Page
     let before = x.state;
     let setup = before.setup;
     let mut written = [0u8; Block::MOST_EVENTS as usize * Reply::LINE];
-    let state = locking::play(before, part, &mut written);
+    let played = locking::play(before, part, &mut written);
+    let state = played.state;
     let count = input::event_count(part);
     let len = put_events(out, &written, count, setup.processors, x.events);
     let session = Session {

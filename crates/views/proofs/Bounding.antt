@@ -5,10 +5,11 @@ use mathlib.Core.Bool.{true}
 use borrow.Author.Tests.{leb-true}
 use Rattle.search.specs.Below.{allBelow}
 use Rattle.search.proofs.Tests.{and-iff, allBelow-at}
+use Rattle.queue.specs.Limits.{capacity}
 use Rattle.input.specs.Limits.{mostTasks, mostResources}
-use Rattle.protocol.specs.Words.{mostRequests, task}
+use Rattle.protocol.specs.Words.{mostRequests, task, group}
 use Rattle.protocol.specs.declared.State.{State}
-use Rattle.views.specs.Bounds.{latest, taskBounded, isBounded}
+use Rattle.views.specs.Bounds.{latest, taskBounded, queueBounded, isBounded}
 
 module _ (s : State) (h : isBounded s ≡ true) where
   pub resources-bounded : s .setup .resources ≤ mostResources
@@ -24,3 +25,7 @@ module _ (s : State) (h : isBounded s ≡ true) where
 
   pub depth-bounded : (t : ℕ) → t < mostTasks → task s t .depth ≤ mostRequests
   depth-bounded t l = leb-true _ _ ((simp and-iff at (allBelow-at mostTasks (λ t. taskBounded (task s t)) tasks-bounded t l)) .1)
+
+  pub queue-bounded : (g : ℕ) → g < mostResources → group s g .queue .len ≤ capacity
+  unfolding isBounded
+  queue-bounded g l = leb-true _ _ (allBelow-at mostResources (λ g. queueBounded (group s g)) ((simp and-iff at h) .1) g l)

@@ -16,6 +16,7 @@ ghost use lib.ListN.{getD, set};
 ghost use Rattle.search.specs.Words.{if_then_else_, _is_};
 ghost use Rattle.search.specs.Below.{allBelow, anyBelow};
 ghost use Rattle.search.specs.Table.{table};
+ghost use Rattle.queue.specs.Limits.{capacity};
 ghost use Rattle.queue.specs.Waiting.{waiter};
 ghost use Rattle.input.specs.Limits.{mostTasks, mostResources, short, long};
 ghost use Rattle.protocol.specs.Words.{mostRequests, nobody, noTask, noGroup};
@@ -97,6 +98,7 @@ fn least(a: u64, b: u64) -> u64
 
 // The least of `rank` and the ranks of those that wait.
 fn least_waiting(ranks: [u64; SetUp::TASKS], queue: Queue, rank: u64) -> u64
+    requires { ⌜ queue .len ≤ capacity ⌝ }
     ensures { λ r. ⌜ r ≡ leastOf (λ i. rankAt ranks (waiter queue i)) (queue .len) rank ⌝ }
 {
     let mut best = rank;

@@ -34,7 +34,11 @@ group-at-requires : tie.Need-group-at-requires
 group-at-requires c κs = search needs
 
 has-kind-requires : tie.Need-has-kind-requires
-has-kind-requires c κs = search needs
+has-kind-requires c κs =
+    let start = c .before .before .before .before .before .before .before .before .before .before .before .before in
+    let s = start .args .state in
+    let can = start .pre .1 in
+    rw (c .before .before .before .before .before .before .task-at .ensures, c .before .before .before .before .before .before .before .before .close-request .ensures) (bounds _ (closes-bounded s (can .bounded) (start .args .t) (can .inside)) .deep (start .args .t) (can .inside))
 
 complete-short-requires : tie.Need-complete-short-requires
 unfolding groupOf len

@@ -2,22 +2,25 @@
 use borrow.Author.Needs.{needs}
 use Prim.Native.Nat.{_≤_, _-_, _*_, _/_, min}
 use mathlib.Core.Path.{_≡_, refl, sym, ap, _∙_}
+use mathlib.Core.Bool.{true}
 use mathlib.Core.Logic.{⊎-elim}
 use native.Mathlib.Omega.{arith}
 use lib.ListN.{length}
 use Rattle.setups.specs.Naming.{names}
 use Rattle.input.specs.Limits.{mostTasks}
 use Rattle.input.specs.Layout.{eventIn, eventCount}
+use Rattle.protocol.specs.Sound.{sound}
 use Rattle.protocol.specs.Events.{step}
 use Rattle.protocol.specs.declared.State.{State}
 use Rattle.states.specs.Writing.{lineSize}
+use Rattle.soundness.specs.declared.Tested.{Tested}
 use Rattle.locking.specs.Steps.{HasParts}
 use Rattle.locking.specs.Playing.{playable, playedTo, writtenTo, played}
 use Rattle.protocol.specs.Words.{task, noTask}
 use Rattle.tables.proofs.Reading.{task-read}
 use lib.ListN.{List·getD-eq-default}
 use Rattle.locking.proofs.Accepted.{step-answer}
-use Rattle.locking.proofs.Along.{tasks-along, parts-along, long-along, room-along, played-turn, buffer-turn}
+use Rattle.locking.proofs.Along.{tasks-along, few-along, parts-along, long-along, room-along, played-turn, buffer-turn}
 use Rattle.locking.proofs.Shapes.{shaped}
 use Rattle.locking.proofs.playing.play.Statement.{statement}
 use Rattle.locking.proofs.playing.play.Tie as tie
@@ -58,26 +61,34 @@ element-copy-out-task c = search needs
 no-task-requires : tie.Need-no-task-requires Inv-loop μ-loop
 no-task-requires c κs = search needs
 
-judge-parts-requires : tie.Need-judge-parts-requires Inv-loop μ-loop
-judge-parts-requires c κs = search needs
+-- the record read is that of the event's task
+reads : (c : tie.After-before2 Inv-loop μ-loop)
+    → c .before .if2 .task ≡ task (c .before .before .before .before .before .loop .now-state) (c .before .before .before .event-at .result .task)
+reads c =
+    let o = c .before .before .before .before .before .loop in
+    let start = c .before .before .before .before .before .before .before .before .before .before .before .before .before in
+    let x = o .now-state in
+    let e = c .before .before .before .event-at .result in
+    let long : length (x .tasks) ≡ mostTasks = ap (λ (y : State). length (y .tasks)) (o .inv .3) ∙ tasks-along (start .args .state) (start .args .part .now) (shaped _ _ (start .good .0)) (o .i) in
+    ⊎-elim
+    (λ w. w .2 ∙ task-read (x .tasks) (e .task) (omega (arith, long, w .0 .taken)))
+    (λ w. w .2 ∙ w .1 .ensures ∙ sym (List·getD-eq-default (x .tasks) noTask (omega (arith, long, w .0 .left))))
+    (c .before .if2 .came)
 
--- what the answer is made of: the record read is that of the event's task
+judge-parts-requires : tie.Need-judge-parts-requires Inv-loop μ-loop
+judge-parts-requires c κs = λ known.
+    let o = c .before .before .before .before .before .loop in
+    let start = c .before .before .before .before .before .before .before .before .before .before .before .before .before in
+    let passes : sound (start .args .state) ≡ true = sym (ap (λ (y : Tested). y .passes) (c .before .before .before .before .before .before .before .before .before .before .test .ensures)) ∙ known in
+    rw (reads c, o .inv .3) (few-along (start .args .state) (start .args .part .now) (shaped _ _ (start .good .0)) (o .i) passes (c .before .before .before .event-at .result .task))
+
+-- what the answer is made of
 has-parts : (c : tie.After-judge-parts Inv-loop μ-loop)
     → HasParts (c .before .before .before .before .before .before .loop .now-state) (c .before .before .before .before .before .before .before .before .before .before .before .before .before .before .args .state .setup) (c .before .before .before .before .before .before .loop .now-state .clock) (c .before .before .if2 .task) (c .before .before .before .before .before .before .loop .now-state .processors) (c .before .before .before .before .before .before .before .before .before .before .before .test .result .named) (c .before .before .before .before .before .before .before .before .before .before .before .test .result .passes) (c .before .before .before .before .event-at .result)
 has-parts c =
     let o = c .before .before .before .before .before .before .loop in
     let start = c .before .before .before .before .before .before .before .before .before .before .before .before .before .before in
-    let a = start .args in
-    let x = o .now-state in
-    let e = c .before .before .before .before .event-at .result in
-    let Z = shaped _ _ (start .good .0) in
-    let long : length (x .tasks) ≡ mostTasks = ap (λ (y : State). length (y .tasks)) (o .inv .3) ∙ tasks-along (a .state) (a .part .now) Z (o .i) in
-    let reads : c .before .before .if2 .task ≡ task x (e .task) =
-    ⊎-elim
-    (λ w. w .2 ∙ task-read (x .tasks) (e .task) (omega (arith, long, w .0 .taken)))
-    (λ w. w .2 ∙ w .1 .ensures ∙ sym (List·getD-eq-default (x .tasks) noTask (omega (arith, long, w .0 .left))))
-    (c .before .before .if2 .came) in
-    parts-along (a .state) (a .part .now) Z (o .i) x (o .inv .3) (c .before .before .before .before .before .before .before .before .before .before .before .test .result) (c .before .before .before .before .before .before .before .before .before .before .before .test .ensures) e (c .before .before .if2 .task) reads
+    parts-along (start .args .state) (start .args .part .now) (shaped _ _ (start .good .0)) (o .i) (o .now-state) (o .inv .3) (c .before .before .before .before .before .before .before .before .before .before .before .test .result) (c .before .before .before .before .before .before .before .before .before .before .before .test .ensures) (c .before .before .before .before .event-at .result) (c .before .before .if2 .task) (reads (c .before))
 
 after-requires : tie.Need-after-requires Inv-loop μ-loop
 after-requires c κs =
@@ -131,7 +142,7 @@ returns c =
     let o = c .before .loop in
     let a = c .before .before .before .before .before .before .before .before .before .args in
     let all : o .i ≡ playable (a .part .now) (a .out .now) = omega (arith, o .inv .1) in
-    rw (← all, ← (o .inv .3), ← (o .inv .4))
+    rw (o .inv .1, ← all, ← (o .inv .3), ← (o .inv .4))
 
 pub play-spec : {M : Type 1} → statement M
 play-spec =

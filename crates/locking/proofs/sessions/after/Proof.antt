@@ -2,7 +2,7 @@ use borrow.Author.Needs.{needs}
 use mathlib.Core.Path.{_≡_, sym, _∙_}
 use borrow.Author.Tests.{ne-eqb, eq-eqb}
 use Rattle.protocol.specs.Refusals.{judge}
-use Rattle.protocol.specs.Events.{charged, step}
+use Rattle.protocol.specs.Events.{charged, stepBy, step}
 use Rattle.protocol.proofs.Reflect.{sound-of-test}
 use Rattle.locking.proofs.Accepted.{accepted-sound, room, charges, can-act}
 use Rattle.locking.proofs.Shapes.{shaped, periods-short}
@@ -31,13 +31,13 @@ act-on-requires c κs =
     rw (c .charge .ensures, c .before .step-to .ensures, start .pre .1) (can-act s e Q ok (periods-short s _ (start .good .0)))
 
 returns : tie.Need-returns
-unfolding step charged
+unfolding step stepBy charged
 returns c =
     let ruled = c .before .before .before .before .pre .0 in
     rw (c .act-on .ensures, c .before .charge .ensures, c .before .before .step-to .ensures, eq-eqb _ _ (sym ruled ∙ c .before .before .before .if1 .taken))
 
 returns-2 : tie.Need-returns-2
-unfolding step
+unfolding step stepBy
 returns-2 c =
     let ruled = c .before .pre .0 in
     rw (← ruled, ne-eqb _ _ (c .if1 .left))

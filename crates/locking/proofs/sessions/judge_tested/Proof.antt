@@ -1,5 +1,7 @@
 use borrow.Author.Needs.{needs}
-use mathlib.Core.Path.{refl}
+use mathlib.Core.Path.{refl, sym, _∙_}
+use Rattle.locking.proofs.Accepted.{few-open}
+use Rattle.locking.proofs.Shapes.{shaped}
 use Rattle.locking.proofs.sessions.judge_tested.Statement.{statement}
 use Rattle.locking.proofs.sessions.judge_tested.Tie as tie
 
@@ -7,7 +9,9 @@ task-at-requires : tie.Need-task-at-requires
 task-at-requires c κs = search needs
 
 judge-parts-requires : tie.Need-judge-parts-requires
-judge-parts-requires c κs = search needs
+judge-parts-requires c κs = λ known.
+    let start = c .before .before .before .before in
+    rw (c .task-at .ensures) (few-open (start .args .state) (shaped _ _ (start .good .0)) (sym (start .pre .0) ∙ known) (start .args .e .task))
 
 returns : tie.Need-returns
 returns c =

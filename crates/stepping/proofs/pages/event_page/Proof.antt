@@ -19,8 +19,8 @@ slice-aggregate-put-events c = search needs
 put-events-requires : tie.Need-put-events-requires
 put-events-requires c κs = search needs
 
-add-t17 : tie.Need-add-t17
-add-t17 c = search needs
+add-t18 : tie.Need-add-t18
+add-t18 c = search needs
 
 wrapping-add-u64-requires : tie.Need-wrapping-add-u64-requires
 wrapping-add-u64-requires c κs = search needs
@@ -30,9 +30,9 @@ same-length c = search needs
 
 returns : tie.Need-returns
 returns c =
-    let a = c .before .before .before .before .before .before .before .before .before .before .before .before .before .before .before .args in
+    let a = c .before .before .before .before .before .before .before .before .before .before .before .before .before .before .before .before .args in
     let put = c .before .before .before .before .put-events .ensures in
-    page-events (a .x) (a .part .now) _ (a .out .now) (omega arith) (omega arith) (omega arith) (c .before .before .before .before .before .before .before .before .before .play .ensures) (c .before .before .before .before .before .before .before .event-count .ensures) (c .wrapping-add-u64 .ensures) (put .0) (put .1)
+    page-events (a .x) (a .part .now) _ (a .out .now) (omega arith) (omega arith) (omega arith) (c .before .before .before .before .before .before .before .before .before .before .play .ensures) (c .before .before .before .before .before .before .before .event-count .ensures) (c .wrapping-add-u64 .ensures) (put .0) (put .1)
 
 pub event-page-spec : {M : Type 1} → statement M
 event-page-spec =
@@ -43,7 +43,7 @@ event-page-spec =
     event-count-requires
     slice-aggregate-put-events
     put-events-requires
-    add-t17
+    add-t18
     wrapping-add-u64-requires
     same-length
     returns)

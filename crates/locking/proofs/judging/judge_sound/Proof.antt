@@ -1,0 +1,195 @@
+-- The rows of the code are those of the rule. Assumes nothing.
+use borrow.Author.Needs.{needs}
+use Prim.Native.Nat.{ℕ, _+_, _-_}
+use mathlib.Core.Path.{_≡_}
+use mathlib.Core.Bool.{Bool, true, not, _&&_, _||_}
+use mathlib.Core.List.{List, [], _++_}
+use lib.Dec.{leb, ltb}
+use lib.ListN.{getD}
+use Rattle.search.specs.Words.{if_then_else_, _is_, _isn't_}
+use Rattle.search.specs.Below.{anyBelow}
+use Rattle.search.specs.Rows.{_when_, _otherwise_, firstOf}
+use Rattle.processors.specs.declared.Processors.{Processors}
+use Rattle.input.specs.Words.{period}
+use Rattle.input.specs.Words.{within}
+use Rattle.setups.specs.Naming.{groupOf}
+use Rattle.input.specs.Kinds.{arrival, finish, request as asking, completion}
+use Rattle.input.specs.declared.SetUp.{SetUp}
+use Rattle.input.specs.declared.Event.{Event}
+use Rattle.protocol.specs.Words.{mostRequests, nobody, lastClock, absent, standingNo, stand, depth, request}
+use Rattle.protocol.specs.Situations.{situationOf, situation, hindrance}
+use Rattle.protocol.specs.Refusals.{ticksTo, misplaced, fieldRows, eventRows, judge}
+use Rattle.protocol.specs.declared.Task.{Task}
+use Rattle.protocol.specs.declared.Situation.{Situation}
+use Rattle.protocol.specs.declared.State.{State}
+use Rattle.locking.specs.Steps.{isApart, HasParts}
+use Rattle.locking.proofs.judging.judge_sound.Statement.{statement}
+use Rattle.locking.proofs.judging.judge_sound.Tie as tie
+
+-- the rule from what the code reads and computes, line by line
+judged : (s : State) (e : Event) {c : SetUp} {clock : ℕ} {k : Task} {p : Processors} {named : List ℕ} {x : Situation} {st hinders now per new step r25 r24 r23 r22 r21 r20 r19 r18 r17 r16 r15 r14 r10 : ℕ} {mis seen : Bool}
+    → st ≡ standingNo (k .standing)
+    → x ≡ situationOf st p (e .task)
+    → hinders ≡ hindrance x
+    → now ≡ clock + ticksTo clock (e .tick)
+    → per ≡ period c (e .task)
+    → new ≡ getD (k .requests) (k .depth - 1) nobody
+    → r25 ≡ (if e .kind is completion && (k .depth is 0 || new isn't e .resource) then 25 else 0)
+    → r24 ≡ (if e .kind is asking && k .depth is mostRequests then 24 else r25)
+    → mis ≡ anyBelow (k .depth) (λ i. isApart (c .kinds) named (e .resource) (getD (k .requests) i nobody))
+    → r23 ≡ (if e .kind is asking && mis then 23 else r24)
+    → seen ≡ anyBelow (k .depth) (λ i. getD (k .requests) i nobody is e .resource)
+    → r22 ≡ (if e .kind is asking && seen then 22 else r23)
+    → r21 ≡ (if e .kind is finish && k .depth isn't 0 then 21 else r22)
+    → r20 ≡ (if within finish (e .kind) completion && hinders is 20 then 20 else r21)
+    → r19 ≡ (if within finish (e .kind) completion && hinders is 19 then 19 else r20)
+    → r18 ≡ (if within finish (e .kind) completion && hinders is 18 then 18 else r19)
+    → r17 ≡ (if e .kind is arrival && k .arrived && ltb now (k .last + per) then 17 else r18)
+    → r16 ≡ (if e .kind is arrival && st isn't absent then 16 else r17)
+    → r15 ≡ (if ltb lastClock now then 15 else r16)
+    → step ≡ ticksTo clock (e .tick)
+    → r14 ≡ (if leb 32768 step then 14 else r15)
+    → r10 ≡ firstOf (fieldRows (c .tasks) (c .resources) e ++ (r14 when true otherwise []))
+    → HasParts s c clock k p named true e
+    → r10 ≡ judge s e
+unfolding judge eventRows stand depth request situation misplaced groupOf
+judged s e st x hin now per new r25 r24 mis r23 seen r22 r21 r20 r19 r18 r17 r16 r15 step r14 r10 has =
+    rw (r10, r14, r15, r16, r17, r18, r19, r20, r21, r22, r23, r24, r25, step, seen, mis, new, per, now, hin, x, st, has .recorded, has .naming, ← (has .tested), has .timed, has .placed, has .given)
+
+stand-of-requires : tie.Need-stand-of-requires
+stand-of-requires c κs = search needs
+
+situation-of-requires : tie.Need-situation-of-requires
+situation-of-requires c κs = search needs
+
+hindrance-of-requires : tie.Need-hindrance-of-requires
+hindrance-of-requires c κs = search needs
+
+clock-after-requires : tie.Need-clock-after-requires
+clock-after-requires c κs = search needs
+
+cast-due : tie.Need-cast-due
+cast-due c = search needs
+
+period-at-requires : tie.Need-period-at-requires
+period-at-requires c κs = search needs
+
+cast-due-2 : tie.Need-cast-due-2
+cast-due-2 c = search needs
+
+add-due : tie.Need-add-due
+add-due c = search needs
+
+newest-requires : tie.Need-newest-requires
+newest-requires c κs = search needs
+
+row-requires : tie.Need-row-requires
+row-requires c κs = search needs
+
+row-requires-2 : tie.Need-row-requires-2
+row-requires-2 c κs = search needs
+
+is-misplaced-requires : tie.Need-is-misplaced-requires
+is-misplaced-requires c κs = c .before .before .before .before .before .before .before .before .before .before .before .before .before .before .before .before .before .before .pre
+
+row-requires-3 : tie.Need-row-requires-3
+row-requires-3 c κs = search needs
+
+is-open-requires : tie.Need-is-open-requires
+is-open-requires c κs = c .before .before .before .before .before .before .before .before .before .before .before .before .before .before .before .before .before .before .before .before .pre
+
+row-requires-4 : tie.Need-row-requires-4
+row-requires-4 c κs = search needs
+
+row-requires-5 : tie.Need-row-requires-5
+row-requires-5 c κs = search needs
+
+row-requires-6 : tie.Need-row-requires-6
+row-requires-6 c κs = search needs
+
+row-requires-7 : tie.Need-row-requires-7
+row-requires-7 c κs = search needs
+
+row-requires-8 : tie.Need-row-requires-8
+row-requires-8 c κs = search needs
+
+row-requires-9 : tie.Need-row-requires-9
+row-requires-9 c κs = search needs
+
+row-requires-10 : tie.Need-row-requires-10
+row-requires-10 c κs = search needs
+
+row-requires-11 : tie.Need-row-requires-11
+row-requires-11 c κs = search needs
+
+step-to-requires : tie.Need-step-to-requires
+step-to-requires c κs = search needs
+
+row-requires-12 : tie.Need-row-requires-12
+row-requires-12 c κs = search needs
+
+field-rows-requires : tie.Need-field-rows-requires
+field-rows-requires c κs = search needs
+
+returns : tie.Need-returns
+returns c =
+    let later = c .before .before .before .before .before .before .before .before .before .before .before .before in
+    let tests = later .before .before .before .before .before .before .before .before in
+    λ s has.
+    judged
+    s
+    (tests .before .before .before .before .before .before .before .before .before .before .before .before .before .before .args .e)
+    (tests .before .before .before .before .before .before .before .before .before .before .stand-of .ensures)
+    (tests .before .before .before .before .before .before .before .before .before .situation-of .ensures)
+    (tests .before .before .before .before .before .before .before .before .hindrance-of .ensures)
+    (tests .before .before .before .before .before .before .before .clock-after .ensures)
+    (tests .before .before .before .before .before .period-at .ensures)
+    (tests .newest .ensures)
+    (later .before .before .before .before .before .row .ensures)
+    (later .before .before .before .before .row2 .ensures)
+    (later .before .before .before .is-misplaced .ensures)
+    (later .before .before .row3 .ensures)
+    (later .before .is-open .ensures)
+    (later .row4 .ensures)
+    (c .before .before .before .before .before .before .before .before .before .before .row5 .ensures)
+    (c .before .before .before .before .before .before .before .before .before .row6 .ensures)
+    (c .before .before .before .before .before .before .before .before .row7 .ensures)
+    (c .before .before .before .before .before .before .before .row8 .ensures)
+    (c .before .before .before .before .before .row9 .ensures)
+    (c .before .before .before .before .row10 .ensures)
+    (c .before .before .before .row11 .ensures)
+    (c .before .before .step-to .ensures)
+    (c .before .row12 .ensures)
+    (c .field-rows .ensures)
+    has
+
+pub judge-sound-spec : {M : Type 1} → statement M
+judge-sound-spec =
+    tie.close
+    (tie.spec
+    stand-of-requires
+    situation-of-requires
+    hindrance-of-requires
+    clock-after-requires
+    cast-due
+    period-at-requires
+    cast-due-2
+    add-due
+    newest-requires
+    row-requires
+    row-requires-2
+    is-misplaced-requires
+    row-requires-3
+    is-open-requires
+    row-requires-4
+    row-requires-5
+    row-requires-6
+    row-requires-7
+    row-requires-8
+    row-requires-9
+    row-requires-10
+    row-requires-11
+    step-to-requires
+    row-requires-12
+    field-rows-requires
+    returns)
