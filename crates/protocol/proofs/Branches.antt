@@ -13,7 +13,8 @@ use Rattle.input.specs.Kinds.{arrival, finish, request as asking, completion, p
 use Rattle.setups.specs.Naming.{groupOf}
 use Rattle.input.specs.declared.SetUp.{SetUp}
 use Rattle.protocol.specs.Words.{nobody, holder, len}
-use Rattle.protocol.specs.Locks.{openOfKind, opens, queues, closes, frees, nextAt, passes, requestEdit, completeEdit}
+use Rattle.protocol.specs.Locks.{openOfKind, opens, queues, closes, frees, nextAt, passes}
+use Rattle.protocol.specs.Edited.{requestEdit, completeEdit}
 use Rattle.protocol.specs.Events.{Prefers, arrives, leaves, softens, givesWay, requestEvent, completeEvent}
 use Rattle.protocol.specs.declared.State.{State}
 

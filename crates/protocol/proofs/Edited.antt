@@ -13,7 +13,8 @@ use Rattle.input.specs.declared.SetUp.{SetUp}
 use Rattle.input.specs.declared.Event.{Event}
 use Rattle.protocol.specs.Words.{nobody, asked, holder, len, waiter}
 use Rattle.protocol.specs.Refusals.{stepOf, judge}
-use Rattle.protocol.specs.Locks.{openOfKind, opens, queues, closes, frees, nextAt, calls, passes, arriveEdit, finishEdit, requestEdit, completeEdit, edited}
+use Rattle.protocol.specs.Locks.{openOfKind, opens, queues, closes, frees, nextAt, calls, passes, arriveEdit, finishEdit}
+use Rattle.protocol.specs.Edited.{requestEdit, completeEdit, edited}
 use Rattle.protocol.specs.Events.{withProcessors, Prefers, arrives, leaves, softens, givesWay, arriveEvent, finishEvent, requestEvent, completeEvent, charged, act, stepBy}
 use Rattle.protocol.specs.declared.State.{State}
 

@@ -17,7 +17,8 @@ use Rattle.queue.proofs.Laws.{append-len, append-place, without-len, without-pl
 use Rattle.setups.specs.Naming.{groupOf}
 use Rattle.input.specs.declared.SetUp.{SetUp}
 use Rattle.protocol.specs.Words.{nobody, group, asked, len, waiter}
-use Rattle.protocol.specs.Locks.{withGroup, openOfKind, opens, queues, closes, frees, nextAt, calls, passes, requestEdit, completeEdit}
+use Rattle.protocol.specs.Locks.{withGroup, openOfKind, opens, queues, closes, frees, nextAt, calls, passes}
+use Rattle.protocol.specs.Edited.{requestEdit, completeEdit}
 use Rattle.protocol.specs.declared.Group.{Group}
 use Rattle.protocol.specs.declared.State.{State}
 use Rattle.protocol.proofs.Carry.{at-one}

@@ -13,7 +13,8 @@ use Rattle.input.specs.Words.{kind}
 use Rattle.setups.specs.Naming.{groupOf}
 use Rattle.input.specs.declared.SetUp.{SetUp}
 use Rattle.protocol.specs.Words.{nobody, group, asked, holder, len, waiter}
-use Rattle.protocol.specs.Locks.{standingAs, opening, onTask, withGroup, lockOf, openOfKind, opens, queues, closes, frees, nextAt, calls, passes, requestEdit, completeEdit}
+use Rattle.protocol.specs.Locks.{standingAs, opening, onTask, withGroup, lockOf, openOfKind, opens, queues, closes, frees, nextAt, calls, passes}
+use Rattle.protocol.specs.Edited.{requestEdit, completeEdit}
 use Rattle.protocol.specs.Demands.{Before}
 use Rattle.protocol.specs.declared.Standing.the-variants.{Active, Waiting}
 use Rattle.protocol.specs.declared.Group.{Group}

@@ -11,7 +11,8 @@ use Rattle.input.specs.Words.{kind}
 use Rattle.setups.specs.Naming.{groupOf}
 use Rattle.input.specs.declared.SetUp.{SetUp}
 use Rattle.protocol.specs.Words.{nobody, absent, spinning, standingNo, group, stand, asked, len}
-use Rattle.protocol.specs.Locks.{standingAs, opening, closing, onTask, lockOf, opens, queues, closes, frees, nextAt, calls, passes, requestEdit, completeEdit}
+use Rattle.protocol.specs.Locks.{standingAs, opening, closing, onTask, lockOf, opens, queues, closes, frees, nextAt, calls, passes}
+use Rattle.protocol.specs.Edited.{requestEdit, completeEdit}
 use Rattle.protocol.specs.declared.Standing.the-variants.{Active, Waiting}
 use Rattle.protocol.specs.declared.State.{State}
 use Rattle.protocol.proofs.Statements.{Grouped, Steady, Ends}

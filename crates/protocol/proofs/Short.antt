@@ -23,7 +23,8 @@ use Rattle.setups.proofs.Accepted.{accepted-iff}
 use Rattle.protocol.specs.Words.{nobody, spinning, group, stand, asked, depth, holder, len}
 use Rattle.protocol.specs.Ranks.{shortOpen}
 use Rattle.protocol.specs.Refusals.{stepOf, judge}
-use Rattle.protocol.specs.Locks.{openOfKind, closes, requestEdit, completeEdit, edited}
+use Rattle.protocol.specs.Locks.{openOfKind, closes}
+use Rattle.protocol.specs.Edited.{requestEdit, completeEdit, edited}
 use Rattle.protocol.specs.Events.{withProcessors, Prefers, charged, Move, moved, stepBy, runBy}
 use Rattle.protocol.specs.Demands.{Before, handsOver, completions, ShortQueue}
 use Rattle.protocol.specs.declared.State.{State}

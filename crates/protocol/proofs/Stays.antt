@@ -13,7 +13,8 @@ use Rattle.input.specs.declared.SetUp.{SetUp}
 use Rattle.input.specs.declared.Event.{Event}
 use Rattle.protocol.specs.Words.{active, spinning, noTask, standingNo, askedOf, task, stand, asked}
 use Rattle.protocol.specs.Refusals.{stepOf, judge}
-use Rattle.protocol.specs.Locks.{standingAs, opening, closing, arriving, departing, onTask, lockOf, opens, queues, closes, frees, nextAt, calls, passes, requestEdit, completeEdit, edited}
+use Rattle.protocol.specs.Locks.{standingAs, opening, closing, arriving, departing, onTask, lockOf, opens, queues, closes, frees, nextAt, calls, passes}
+use Rattle.protocol.specs.Edited.{requestEdit, completeEdit, edited}
 use Rattle.protocol.specs.Events.{charged}
 use Rattle.protocol.specs.declared.Standing.the-variants.{Active, Waiting}
 use Rattle.protocol.specs.declared.Task.{Task}

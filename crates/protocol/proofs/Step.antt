@@ -29,7 +29,8 @@ use Rattle.protocol.specs.Words.{mostRequests, lastClock, absent, spinni
 use Rattle.protocol.specs.Ranks.{jobs}
 use Rattle.protocol.specs.Situations.{situation, hindrance}
 use Rattle.protocol.specs.Refusals.{stepOf, misplaced, eventRows, judge}
-use Rattle.protocol.specs.Locks.{opens, queues, closes, frees, nextAt, calls, passes, arriveEdit, finishEdit, requestEdit, completeEdit, edited}
+use Rattle.protocol.specs.Locks.{opens, queues, closes, frees, nextAt, calls, passes, arriveEdit, finishEdit}
+use Rattle.protocol.specs.Edited.{requestEdit, completeEdit, edited}
 use Rattle.protocol.specs.Events.{withProcessors, Prefers, cold, arrives, leaves, softens, givesWay, arriveEvent, finishEvent, requestEvent, completeEvent, charged, act, Move, moved, stepBy, runBy, step, plain, run}
 use Rattle.protocol.specs.declared.Situation.the-variants.{NoJob, Running, Spinning, LinkedOnly, Ready, Suspended}
 use Rattle.protocol.specs.declared.State.{State}

@@ -21,7 +21,8 @@ use Rattle.setups.specs.Naming.{groupOf}
 use Rattle.input.specs.declared.SetUp.{SetUp}
 use Rattle.protocol.specs.Words.{mostRequests, nobody, absent, spinning, suspended, task, stand, asked, depth, request, holder, len, waiter}
 use Rattle.protocol.specs.Ranks.{own, jobs}
-use Rattle.protocol.specs.Locks.{arriving, departing, onTask, openOfKind, opens, queues, closes, frees, nextAt, calls, passes, finishEdit, requestEdit, completeEdit}
+use Rattle.protocol.specs.Locks.{arriving, departing, onTask, openOfKind, opens, queues, closes, frees, nextAt, calls, passes, finishEdit}
+use Rattle.protocol.specs.Edited.{requestEdit, completeEdit}
 use Rattle.protocol.specs.Events.{Prefers, withProcessors, arrives, leaves, softens, givesWay, finishEvent, requestEvent, completeEvent}
 use Rattle.protocol.specs.declared.Task.{Task}
 use Rattle.protocol.specs.declared.State.{State}

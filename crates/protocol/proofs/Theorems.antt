@@ -12,7 +12,7 @@ use Rattle.input.specs.declared.SetUp.{SetUp}
 use Rattle.input.specs.declared.Event.{Event}
 use Rattle.protocol.specs.Words.{nobody, noTask, noGroup}
 use Rattle.protocol.specs.Events.{Move, fresh, begin}
-use Rattle.protocol.specs.Demands.{Given, after, LinksHighest, ShortQueue, AlwaysSound, AlwaysApart, AlwaysHighest, AlwaysOneHolder, AlwaysChainsEnd, AlwaysOnePlace, AlwaysShortQueue, AlwaysCharges, AlwaysSums, RefusedLeftOut, RefusedKeeps, IsEmpty, RefusedIsEmpty}
+use Rattle.protocol.specs.Demands.{Given, after, LinksHighest, ShortQueue, AlwaysSound, AlwaysDemand3, AlwaysCharges, AlwaysSums, RefusedLeftOut, RefusedKeeps, IsEmpty, RefusedIsEmpty}
 use Rattle.protocol.proofs.Statements.{Sound}
 use Rattle.protocol.proofs.Begin.{begin-sound}
 use Rattle.protocol.proofs.Reflect.{test-of-sound}
@@ -42,23 +42,18 @@ pub sound-after : AlwaysSound
 sound-after c g ms = test-of-sound (after c ms) (Q c g ms)
 
 -- ---- demand 3
-pub priorities-apart-after : AlwaysApart
-priorities-apart-after c g ms = priorities-apart (after c ms) (Q c g ms)
-
-pub links-highest-after : AlwaysHighest
-links-highest-after c g ms = subst (LinksHighest (after c ms)) (same-count c g ms) (links-highest (after c ms) (Q c g ms))
-
-pub one-holder-after : AlwaysOneHolder
-one-holder-after c g ms = one-holder (after c ms) (Q c g ms)
-
-pub chains-end-after : AlwaysChainsEnd
-chains-end-after c g ms = chains-end (after c ms) (Q c g ms)
-
-pub short-queue-after : AlwaysShortQueue
-short-queue-after c g ms pick e ok k s o = subst (ShortQueue (after c ms) pick e) (same-count c g ms) (short-queue (after c ms) pick e (Q c g ms) ok k s o)
-
-pub one-place-after : AlwaysOnePlace
-one-place-after c g ms = one-place (after c ms) (Q c g ms)
+pub demand-3-after : AlwaysDemand3
+demand-3-after c g ms =
+    let s = after c ms in
+    let q = Q c g ms in
+    record {
+      links = subst (LinksHighest s) (same-count c g ms) (links-highest s q);
+      apart = priorities-apart s q;
+      holders = one-holder s q;
+      chains = chains-end s q;
+      places = one-place s q;
+      queues = λ pick e ok k short outer. subst (ShortQueue s pick e) (same-count c g ms) (short-queue s pick e q ok k short outer);
+    }
 
 -- ---- totals
 pub charges-after : AlwaysCharges

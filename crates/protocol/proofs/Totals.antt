@@ -20,7 +20,8 @@ use Rattle.input.specs.declared.Event.{Event}
 use Rattle.protocol.specs.Words.{sum, absent, standingNo, noTask, task, stand}
 use Rattle.protocol.specs.Situations.{situation, totalOf}
 use Rattle.protocol.specs.Refusals.{stepOf, judge}
-use Rattle.protocol.specs.Locks.{arriving, departing, onTask, edited}
+use Rattle.protocol.specs.Locks.{arriving, departing, onTask}
+use Rattle.protocol.specs.Edited.{edited}
 use Rattle.protocol.specs.Events.{Prefers, counting, charged, fresh, begin, Move, moved, stepBy, runBy}
 use Rattle.protocol.specs.Demands.{Given, after, accepts, pendingTicks, Charges}
 use Rattle.protocol.specs.declared.Task.{Task}

@@ -1,5 +1,5 @@
--- Demand 3 and the totals, as statements about a state, an event or a list of events; and each, under a name, as a theorem of every
--- run from an accepted set-up, `after`. `proofs/Theorems` proves them; nothing else need be read to know what is promised.
+-- Demand 3 and the totals, as statements about a state, an event or a list of events; and, at the end, the theorems: that they hold
+-- of every run from an accepted set-up, `after`. `proofs/Theorems` proves them; nothing else need be read to know what is promised.
 use Prim.Native.Nat.{ℕ, zero, suc, _+_, _-_, _<_, _≤_, min}
 use mathlib.Core.Path.{_≡_}
 use mathlib.Core.Bool.{Bool, true, false, not, _&&_, _||_}
@@ -62,7 +62,8 @@ isAhead s t u = isRunnable s u && ltb (effective (s .setup) s u) (effective (s .
 
 -- no two runnable jobs have the same priority
 abbrev pub PrioritiesApart : State → Type 0
-PrioritiesApart s = (t u : ℕ) → t < mostTasks → u < mostTasks → isRunnable s t ≡ true → isRunnable s u ≡ true → effective (s .setup) s t ≡ effective (s .setup) s u → t ≡ u
+PrioritiesApart s = (t u : ℕ) → t < mostTasks → u < mostTasks → isRunnable s t ≡ true → isRunnable s u ≡ true
+    → effective (s .setup) s t ≡ effective (s .setup) s u → t ≡ u
 
 -- the linked jobs are exactly the highest-priority runnable ones, m or all if fewer, each linked once
 pub record LinksHighest (s : State) (m : ℕ) : Type 0 where
@@ -117,6 +118,20 @@ pub record ShortQueue (s : State) (pick : Prefers) (e : Event) (m : ℕ) : Type 
       → let end = runBy (stepBy pick s e .state) ms in
       Before end (groupOf (s .setup) (e .resource)) (e .task) n × (n ≢ 0 → (stand end (e .task) ≡ spinning) × (asked end (e .task) ≡ e .resource))
 
+-- of every request, accepted in s, for a short resource by a job with no short request open
+abbrev pub ShortQueues : State → ℕ → Type 0
+ShortQueues s m = (pick : Prefers) (e : Event) → judge s e ≡ 0 → e .kind ≡ asking → kind (s .setup) (e .resource) ≡ short
+    → shortOpen (s .setup) s (e .task) ≡ false → ShortQueue s pick e m
+
+-- ---- demand 3, of the state after some events
+pub record Demand3 (c : SetUp) (ms : List Move) : Type 0 where
+  pub links : LinksHighest (after c ms) (c .processors)
+  pub apart : PrioritiesApart (after c ms)
+  pub holders : OneHolder (after c ms)
+  pub chains : ChainsEnd (after c ms)
+  pub places : OnePlace (after c ms)
+  pub queues : ShortQueues (after c ms) (c .processors)
+
 -- ---- totals
 -- the ticks that t has been pending, from its accepted arrivals and finishes and their clocks: since the clock `since`, if it is
 -- pending at the start
@@ -142,27 +157,8 @@ Always P = (c : SetUp) → Given c → (ms : List Move) → P c ms
 abbrev pub AlwaysSound : Type 0
 AlwaysSound = Always (λ c ms. sound (after c ms) ≡ true)
 
-abbrev pub AlwaysApart : Type 0
-AlwaysApart = Always (λ c ms. PrioritiesApart (after c ms))
-
-abbrev pub AlwaysHighest : Type 0
-AlwaysHighest = Always (λ c ms. LinksHighest (after c ms) (c .processors))
-
-abbrev pub AlwaysOneHolder : Type 0
-AlwaysOneHolder = Always (λ c ms. OneHolder (after c ms))
-
-abbrev pub AlwaysChainsEnd : Type 0
-AlwaysChainsEnd = Always (λ c ms. ChainsEnd (after c ms))
-
-abbrev pub AlwaysOnePlace : Type 0
-AlwaysOnePlace = Always (λ c ms. OnePlace (after c ms))
-
--- a request for a short resource by a job with no short request open
-abbrev pub AlwaysShortQueue : Type 0
-AlwaysShortQueue = Always (λ c ms.
-    let s = after c ms in
-    (pick : Prefers) (e : Event) → judge s e ≡ 0 → e .kind ≡ asking → kind (s .setup) (e .resource) ≡ short
-    → shortOpen (s .setup) s (e .task) ≡ false → ShortQueue s pick e (c .processors))
+abbrev pub AlwaysDemand3 : Type 0
+AlwaysDemand3 = Always Demand3
 
 abbrev pub AlwaysCharges : Type 0
 AlwaysCharges = Always (λ c ms. (pick : Prefers) (e : Event) (t : ℕ) → judge (after c ms) e ≡ 0 → t < mostTasks → Charges (after c ms) pick e t)

@@ -30,19 +30,6 @@ use Rattle.protocol.specs.declared.Reply.{Reply}
 abbrev pub withProcessors : Processors → State → State
 withProcessors p s = record { setup = s .setup; clock = s .clock; tasks = s .tasks; groups = s .groups; processors = p }
 
--- The processor that is suggested to a task that arrives or resumes in a state: it is taken if it is unlinked, and else the
--- lowest-numbered unlinked one is.
-abbrev pub Prefers : Type 0
-Prefers = State → ℕ → ℕ
-
--- the choice of document 01: none is suggested
-abbrev pub cold : Prefers
-cold s t = nobody
-
--- t arrives or resumes
-unfoldable pub arrives : Prefers → SetUp → ℕ → State → State
-arrives pick c t s = withProcessors (linking (s .processors) (jobs c s) t (pick s t)) s
-
 module _ (c : SetUp) (t : ℕ) (s : State) where
   -- t finishes or suspends; becomes preemptable; gives way
   unfoldable pub leaves : State
@@ -54,10 +41,7 @@ module _ (c : SetUp) (t : ℕ) (s : State) where
   unfoldable pub givesWay : State
   givesWay = withProcessors (givingWay (s .processors) (jobs c s) t) s
 
--- Arrival, and finish.
-unfoldable pub arriveEvent : Prefers → SetUp → ℕ → State → State
-arriveEvent pick c t s = arrives pick c t (arriveEdit c t s)
-
+-- ---- finish and request
 module _ (c : SetUp) (t : ℕ) where
   unfoldable pub finishEvent : State → State
   finishEvent s = leaves c t (finishEdit t s)
@@ -71,22 +55,17 @@ module _ (c : SetUp) (t : ℕ) where
       else if kind c r is short then queues c t r g s
       else leaves c t (queues c t r g s)
 
--- Completion. Inner: the request is closed, no more. Outermost short: the queue's first job becomes holder, then the
--- completer becomes preemptable. Outermost long: the completer's priority is restored, as the group is free, and it gives
--- way; then the queue's first job becomes holder and resumes.
-unfoldable pub completeEvent : Prefers → SetUp → ℕ → ℕ → State → State
-completeEvent pick c t r s =
-    let g = groupOf c r in
-    let closed = closes t s in
-    let freed = frees g closed in
-    if openOfKind c closed t r then closed
-    else if kind c r is short then softens c t (if len s g is 0 then freed else passes g freed)
-    else if len s g is 0 then givesWay c t freed
-    else arrives pick c (nextAt s g) (passes g (givesWay c t freed))
-
 -- Tick totals: each pending task's ticks go to the total of its situation before the event.
 abbrev pub counting : ℕ → ℕ → Task → Task
-counting i n t = record { standing = t .standing; deadline = t .deadline; arrived = t .arrived; last = t .last; requests = t .requests; depth = t .depth; totals = set (t .totals) i (getD (t .totals) i 0 + n) }
+counting i n t = record {
+  standing = t .standing;
+  deadline = t .deadline;
+  arrived = t .arrived;
+  last = t .last;
+  requests = t .requests;
+  depth = t .depth;
+  totals = set (t .totals) i (getD (t .totals) i 0 + n);
+}
 
 unfoldable pub charged : ℕ → State → State
 charged n s = record {
@@ -97,22 +76,55 @@ charged n s = record {
   processors = s .processors;
 }
 
--- an accepted event, on the state charged with its ticks
-unfoldable pub act : Prefers → SetUp → Event → State → State
-act pick c e s =
-    if e .kind is arrival then arriveEvent pick c (e .task) s
-    else if e .kind is finish then finishEvent c (e .task) s
-    else if e .kind is asking then requestEvent c (e .task) (e .resource) s
-    else if e .kind is completion then completeEvent pick c (e .task) (e .resource) s
-    else s
+-- ---- who arrives or resumes, and a whole step
+-- a processor suggested to a task in a state; document 01 suggests none, and the lowest-numbered unlinked one is taken
+abbrev pub Prefers : Type 0
+Prefers = State → ℕ → ℕ
 
--- A refused event hands back the same state.
-unfoldable pub stepBy : Prefers → State → Event → Reply
-stepBy pick s e =
-    if judge s e is 0 then record { answer = 0; state = act pick (s .setup) e (charged (stepOf s e) s) }
-    else record { answer = judge s e; state = s }
+abbrev pub cold : Prefers
+cold s t = nobody
 
--- events, each with what is suggested there, and the state after a list of them
+module _ (pick : Prefers) where
+  -- t arrives or resumes
+  unfoldable pub arrives : SetUp → ℕ → State → State
+  arrives c t s = withProcessors (linking (s .processors) (jobs c s) t (pick s t)) s
+
+  unfoldable pub arriveEvent : SetUp → ℕ → State → State
+  arriveEvent c t s = arrives c t (arriveEdit c t s)
+
+  -- Completion. Inner: the request is closed, no more. Outermost short: the queue's first job becomes holder, then the
+  -- completer becomes preemptable. Outermost long: the completer's priority is restored, as the group is free, and it gives
+  -- way; then the queue's first job becomes holder and resumes.
+  unfoldable pub completeEvent : SetUp → ℕ → ℕ → State → State
+  completeEvent c t r s =
+      let g = groupOf c r in
+      let closed = closes t s in
+      let freed = frees g closed in
+      if openOfKind c closed t r then closed
+      else if kind c r is short then softens c t (if len s g is 0 then freed else passes g freed)
+      else if len s g is 0 then givesWay c t freed
+      else arrives c (nextAt s g) (passes g (givesWay c t freed))
+
+  -- an accepted event, on the state charged with its ticks
+  unfoldable pub act : SetUp → Event → State → State
+  act c e s =
+      if e .kind is arrival then arriveEvent c (e .task) s
+      else if e .kind is finish then finishEvent c (e .task) s
+      else if e .kind is asking then requestEvent c (e .task) (e .resource) s
+      else if e .kind is completion then completeEvent c (e .task) (e .resource) s
+      else s
+
+  -- A refused event hands back the same state.
+  unfoldable pub stepBy : State → Event → Reply
+  stepBy s e =
+      if judge s e is 0 then record { answer = 0; state = act (s .setup) e (charged (stepOf s e) s) }
+      else record { answer = judge s e; state = s }
+
+-- the rule of document 01
+unfoldable pub step : State → Event → Reply
+step s e = stepBy cold s e
+
+-- ---- lists of events, and of moves: events, each with what is suggested there; the state after them
 pub record Move : Type 0 where
   pub prefers : Prefers
   pub event : Event
@@ -124,10 +136,6 @@ unfoldable pub runBy : State → List Move → State
 runBy s [] = s
 runBy s (m ∷ ms) = runBy (moved s m) ms
 
--- events alone: nothing is suggested
-unfoldable pub step : State → Event → Reply
-step s e = stepBy cold s e
-
 abbrev pub plain : List Event → List Move
 plain es = map (λ e. record { prefers = cold; event = e }) es
 
@@ -136,7 +144,17 @@ run s es = runBy s (plain es)
 
 -- ---- what a set-up gives: nobody has arrived; a refused one gives an empty state
 abbrev pub noSetUp : SetUp
-noSetUp = record { processors = 0; tasks = 0; resources = 0; pairs = 0; start = 0; periods = replicate mostTasks 0; kinds = replicate mostResources 0; outer = replicate mostPairs 0; inner = replicate mostPairs 0 }
+noSetUp = record {
+  processors = 0;
+  tasks = 0;
+  resources = 0;
+  pairs = 0;
+  start = 0;
+  periods = replicate mostTasks 0;
+  kinds = replicate mostResources 0;
+  outer = replicate mostPairs 0;
+  inner = replicate mostPairs 0;
+}
 
 unfoldable pub fresh : SetUp → State
 fresh c = record { setup = c; clock = c .start; tasks = replicate mostTasks noTask; groups = replicate mostResources noGroup; processors = noneLinked (c .processors) }

@@ -5,6 +5,7 @@ pub mod Sound
 pub mod Refusals
 pub mod Locks
 pub mod Events
+pub mod Edited
 pub mod Demands
 pub mod Cases
 pub mod Impostors

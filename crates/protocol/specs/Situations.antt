@@ -22,13 +22,17 @@ situationOf standing p t =
 unfoldable pub situation : State → ℕ → Situation
 situation s t = situationOf (stand s t) (s .processors) t
 
+-- suspended ticks are reported as direct blocking
+abbrev pub directBlocking : ℕ
+directBlocking = 4
+
 -- the total of each situation, in the order printed; a task without a job has none
 abbrev pub totalOf : Situation → ℕ
 totalOf Running = 0
 totalOf Spinning = 1
 totalOf LinkedOnly = 2
 totalOf Ready = 3
-totalOf Suspended = 4
+totalOf Suspended = directBlocking
 totalOf NoJob = totalCount
 
 -- the refusals 18 to 20: no pending job, the job on no processor, the job spinning

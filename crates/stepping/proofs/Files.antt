@@ -1,17 +1,19 @@
 -- What the program prints of a whole file is what the rules say. Assumes nothing.
-use Prim.Native.Nat.{ℕ, zero, suc, _+_, _*_, _≤_, _<_, min}
+use Prim.Native.Nat.{ℕ, zero, suc, _+_, _-_, _*_, _/_, _≤_, _<_, min}
 use mathlib.Core.Path.{_≡_, refl, sym, ap, subst, _∙_}
 use mathlib.Core.Bool.{Bool, true, false}
 use mathlib.Core.List.{List, [], _∷_, _++_, append-nil, append-assoc}
 use mathlib.Core.Logic.{_≢_}
 use native.Mathlib.Nat.{add-zero, add-suc, suc-add}
-use native.Mathlib.Decide.{ℕ-discrete}
+use native.Mathlib.Decide.{ℕ-discrete, decLt}
 use native.Mathlib.Omega.{arith}
-use lib.ListN.{length, getD, take}
+use lib.ListN.{length, getD, take, drop, length-take, length-drop, List·getD-eq-default}
+use lib.Seq.{getD-take}
 use borrow.Author.Tests.{eq-eqb, ne-eqb}
+use Rattle.search.proofs.Tables.{table-length, table-at}
 use Rattle.processors.specs.Limits.{processors}
 use Rattle.input.specs.Limits.{mostTasks}
-use Rattle.input.specs.Layout.{eventsIn}
+use Rattle.input.specs.Layout.{byte, eventsIn}
 use Rattle.input.specs.declared.SetUp.{SetUp}
 use Rattle.input.specs.declared.Event.{Event}
 use Rattle.setups.specs.Refusals.{setUpRefusal}
@@ -23,16 +25,18 @@ use Rattle.protocol.specs.declared.State.{State}
 use Rattle.protocol.proofs.Statements.{Sound}
 use Rattle.protocol.proofs.Begin.{begin-sound}
 use Rattle.protocol.proofs.Step.{run-sound, run-setup, run-join}
-use Rattle.protocol.proofs.Theorems.{links-highest-after, one-holder-after, chains-end-after}
-use Rattle.blocks.specs.Sizes.{mostEvents}
+use Rattle.protocol.proofs.Theorems.{demand-3-after}
+use Rattle.blocks.specs.Sizes.{blockSize, mostEvents}
+use Rattle.blocks.specs.Verdicts.{blockRows, verdict}
 use Rattle.blocks.specs.OneByte.{AreBytes}
 use Rattle.texts.specs.Texts.{eachText}
 use Rattle.texts.specs.Lines.{firstText, blockText}
 use Rattle.stepping.specs.Pages.{beginning, nextPage}
-use Rattle.stepping.specs.Files.{pages, printed, refusalOf, partOf, setUpOf, eventsFrom, answersText, totalsText, endText, fileState, fileText, Read, PrintsTheRules, Accepted, DemandsHold, PrintsARun, FilePrintsARun}
+use Rattle.stepping.specs.Files.{blocksOf, refusalOf, partOf, eventsFrom, answersText, tasksText, endText, setUpOf, eventsOf, stateOf, fileState, fileText}
+use Rattle.stepping.specs.Program.{pages, printed, Begins, DemandsHold, PrintsTheRules, FilesPrintTheRules, Accepted, IsARun, AcceptedIsARun}
 use Rattle.stepping.specs.declared.Session.{Session}
 use Rattle.stepping.proofs.Answers.{answers-join}
-use Rattle.stepping.proofs.Openings.{at, overAt, page-refused, page-end, page-used, pages-over, first-start, first-refused, set-up-refused, set-up-given, few-events, used-long}
+use Rattle.stepping.proofs.Openings.{at, overAt, page-refused, page-end, page-used, pages-over, firstSetUp, first-start, first-refused, set-up-refused, set-up-given, few-events, part-bytes}
 
 -- no block is empty
 abbrev Some : List (List ℕ) → Type 0
@@ -50,7 +54,7 @@ module _ (c : SetUp) where
   abbrev Follows : ℕ → ℕ → State → List (List ℕ) → Session × List ℕ → Type 0
   Follows index events s blocks told =
       let es = eventsFrom index blocks in
-      (told .1 ≡ answersText events (c .processors) s es ++ endText index blocks (totalsText (run s es) (c .tasks))) × (told .0 .state ≡ run s es)
+      (told .1 ≡ answersText events (c .processors) s es ++ endText index blocks (tasksText (run s es) (c .tasks))) × (told .0 .state ≡ run s es)
 
   abbrev read : List (List ℕ) → List (List ℕ)
   read blocks = blocks ++ ([] ∷ [])
@@ -61,7 +65,7 @@ module _ (c : SetUp) where
   follow-end index events s Q same d =
       let all : min (s .setup .tasks) mostTasks ≡ c .tasks = omega (arith, accepted-iff (s .setup) .0 (Q .setup) .tasks .1, ap (λ (x : SetUp). x .tasks) same) in
       rw (page-end index events s d, all)
-      (append-nil (totalsText s (c .tasks)), refl)
+      (append-nil (tasksText s (c .tasks)), refl)
 
   -- a block refused
   follow-refused : (index events : ℕ) (s : State) (block : List ℕ) (blocks : List (List ℕ)) → length block ≢ 0 → refusalOf block index ≢ 0
@@ -88,7 +92,7 @@ module _ (c : SetUp) where
       rw (pages-step (at index events s) block (read blocks) page, eq-eqb (refusalOf block index) 0 ok) (
         ap (λ l. answersText events m s es ++ l) text
             ∙ sym (append-assoc (answersText events m s es) (answersText (events + length es) m (run s es) fs) _)
-            ∙ ap (λ l. l ++ endText (suc index) blocks (totalsText (run s (es ++ fs)) (c .tasks))) (sym (answers-join events m s es fs)),
+            ∙ ap (λ l. l ++ endText (suc index) blocks (tasksText (run s (es ++ fs)) (c .tasks))) (sym (answers-join events m s es fs)),
         rest .1 ∙ sym (run-join s es fs),
       )
 
@@ -106,9 +110,9 @@ module _ (c : SetUp) where
 
 -- ---- a whole file
 -- the set-up given: what its state has, and what is printed and done from it on
-module _ (first : List ℕ) (ok : refusalOf first 0 ≡ 0) (good : setUpRefusal (setUpOf first) ≡ 0) (all : AreBytes first) where
+module _ (first : List ℕ) (ok : refusalOf first 0 ≡ 0) (good : setUpRefusal (firstSetUp first) ≡ 0) (all : AreBytes first) where
   abbrev c : SetUp
-  c = setUpOf first
+  c = firstSetUp first
 
   given : Given c
   given = record { accepted = good; start = first-start first ok all }
@@ -120,12 +124,13 @@ module _ (first : List ℕ) (ok : refusalOf first 0 ≡ 0) (good : setUpRefusal 
   unfolding begin fresh cleared
   counts = rw (eq-eqb (setUpRefusal c) 0 good) (refl, refl)
 
-  behind : (later : List (List ℕ)) → Some later → Follows (begin c .state .setup) 1 0 (begin c .state) later (pages (at 1 0 (begin c .state)) (later ++ ([] ∷ [])))
+  behind : (later : List (List ℕ)) → Some later → Follows (begin c .state .setup) 1 0 (begin c .state) later (pages (at 1 0 (begin c .state)) (read (begin c .state .setup) later))
   behind later some = follow (begin c .state .setup) later 1 0 (begin c .state) some start refl (λ e. omega arith) (omega arith)
 
   whole : (later : List (List ℕ)) → Some later
-      → (printed (first ∷ later) .1 ≡ firstText (c .processors) (c .tasks) (c .start) ++ answersText 0 (c .processors) (begin c .state) (eventsFrom 1 later) ++ endText 1 later (totalsText (after c (plain (eventsFrom 1 later))) (c .tasks)))
-      × (printed (first ∷ later) .0 .state ≡ after c (plain (eventsFrom 1 later)))
+      → let told = pages beginning (first ∷ later ++ ([] ∷ [])) in
+      (told .1 ≡ firstText (c .processors) (c .tasks) (c .start) ++ answersText 0 (c .processors) (begin c .state) (eventsFrom 1 later) ++ endText 1 later (tasksText (after c (plain (eventsFrom 1 later))) (c .tasks)))
+      × (told .0 .state ≡ after c (plain (eventsFrom 1 later)))
   unfolding run
   whole later some =
       let all = behind later some in
@@ -138,33 +143,32 @@ first-over : (read : List ℕ) (reads : List (List ℕ)) (text : List ℕ) → n
     → (pages beginning (read ∷ reads) .1 ≡ text) × (pages beginning (read ∷ reads) .0 .state ≡ fresh noSetUp)
 first-over read reads text page = rw (pages-step beginning read reads page, pages-over 0 0 (fresh noSetUp) reads) (append-nil text, refl)
 
-no-block : nextPage beginning [] ≡ (overAt 0 0 (fresh noSetUp), blockText 0 30)
+-- an empty file lacks its first block
+none-refused : refusalOf [] 0 ≡ 30
+unfolding verdict blockRows
+none-refused = refl
+
+no-block : nextPage beginning [] ≡ (overAt 0 0 (fresh noSetUp), blockText 0 (refusalOf [] 0))
 unfolding nextPage beginning
-no-block = refl
+no-block = rw none-refused
 
--- what the program prints of any file is what the rules say
-pub prints-the-rules : PrintsTheRules
+-- what is read of a file: blocks that are not empty, of bytes
+record Read (blocks : List (List ℕ)) : Type 0 where
+  some : Some blocks
+  bytes : (i : ℕ) → AreBytes (getD blocks i [])
+
+-- the program's text of such blocks and the end, and its state, are those of the rules
+by-the-rules : (blocks : List (List ℕ)) → Read blocks
+    → let told = pages beginning (blocks ++ ([] ∷ [])) in (told .1 ≡ fileText blocks) × (told .0 .state ≡ fileState blocks)
 unfolding fileText fileState
-prints-the-rules [] read = first-over [] [] _ no-block
-prints-the-rules (first ∷ later) read = elim (ℕ-discrete (refusalOf first 0) 0) [
-  | yes ok ↦ elim (ℕ-discrete (setUpRefusal (setUpOf first)) 0) [
-    | yes good ↦ rw (eq-eqb (refusalOf first 0) 0 ok, eq-eqb (setUpRefusal (setUpOf first)) 0 good) (whole first ok good (read .bytes 0) later (λ i l. read .some (suc i) (omega arith)))
-    | no bad ↦ rw (eq-eqb (refusalOf first 0) 0 ok, ne-eqb (setUpRefusal (setUpOf first)) 0 bad) (first-over first (later ++ ([] ∷ [])) _ (set-up-refused first ok bad))
+by-the-rules [] R = rw (ne-eqb (refusalOf [] 0) 0 (λ e. omega (arith, none-refused))) (first-over [] [] _ no-block)
+by-the-rules (first ∷ later) R = elim (ℕ-discrete (refusalOf first 0) 0) [
+  | yes ok ↦ elim (ℕ-discrete (setUpRefusal (firstSetUp first)) 0) [
+    | yes good ↦ rw (eq-eqb (refusalOf first 0) 0 ok, eq-eqb (setUpRefusal (firstSetUp first)) 0 good) (whole first ok good (R .bytes 0) later (λ i l. R .some (suc i) (omega arith)))
+    | no bad ↦ rw (eq-eqb (refusalOf first 0) 0 ok, ne-eqb (setUpRefusal (firstSetUp first)) 0 bad) (first-over first (later ++ ([] ∷ [])) _ (set-up-refused first ok bad))
   ]
-  | no bad ↦ rw (ne-eqb (refusalOf first 0) 0 bad) (first-over first (later ++ ([] ∷ [])) _ (first-refused first (read .some 0 (omega arith)) bad))
+  | no bad ↦ rw (ne-eqb (refusalOf first 0) 0 bad) (first-over first (later ++ ([] ∷ [])) _ (first-refused first (R .some 0 (omega arith)) bad))
 ]
-
--- ---- a file whose blocks are all accepted
-abbrev AllUsed : ℕ → List (List ℕ) → Type 0
-AllUsed index blocks = (i : ℕ) → i < length blocks → refusalOf (getD blocks i []) (index + i) ≡ 0
-
--- ends with the totals
-end-totals : (index : ℕ) (blocks : List (List ℕ)) (totals : List ℕ) → AllUsed index blocks → endText index blocks totals ≡ totals
-unfolding endText
-end-totals index [] totals used = refl
-end-totals index (block ∷ blocks) totals used =
-    rw (eq-eqb (refusalOf block index) 0 (rw (add-zero index) at (used 0 (omega arith))))
-    (end-totals (suc index) blocks totals (λ i l. rw (suc-add index i, ← (add-suc index i)) (used (suc i) (omega arith))))
 
 -- the end changes no state
 end-keeps : (x : Session) (reads : List (List ℕ)) → pages x (reads ++ ([] ∷ [])) .0 .state ≡ pages x reads .0 .state
@@ -176,15 +180,75 @@ end-keeps x [] = go (x .over) refl
     go false h = rw h
 end-keeps x (read ∷ reads) = end-keeps (nextPage x read .0) reads
 
--- the program's output for a file whose blocks and set-up are accepted is a run, and demand 3 holds at every line of it
-pub file-prints-a-run : FilePrintsARun
-file-prints-a-run first later all a =
-    let es = eventsFrom 1 later in
-    let G = given first (a .opens) (a .setup) all in
-    let W = whole first (a .opens) (a .setup) all later (λ i l. used-long (getD later i []) (suc i) (a .follow i l)) in
+-- ---- the bytes of a file in blocks
+module _ (bytes : List ℕ) (all : AreBytes bytes) where
+  abbrev count : ℕ
+  count = (length bytes + blockSize - 1) / blockSize
+
+  block-at : (i : ℕ) → i < count → getD (blocksOf bytes) i [] ≡ take blockSize (drop (blockSize * i) bytes)
+  unfolding blocksOf
+  block-at i l = table-at (λ k. take blockSize (drop (blockSize * k) bytes)) count i [] l
+
+  how-many : length (blocksOf bytes) ≡ count
+  unfolding blocksOf
+  how-many = table-length (λ k. take blockSize (drop (blockSize * k) bytes)) count
+
+  block-some : (i : ℕ) → i < length (blocksOf bytes) → length (getD (blocksOf bytes) i []) ≢ 0
+  block-some i l e =
+      let inside : i < count = omega (arith, how-many) in
+      omega (arith, rw (block-at i inside) at e, length-take blockSize (drop (blockSize * i) bytes), length-drop (blockSize * i) bytes)
+
+  none-bytes : AreBytes []
+  none-bytes i = omega arith
+
+  block-bytes : (i : ℕ) → AreBytes (getD (blocksOf bytes) i [])
+  block-bytes i = elim (decLt i count) [
+    | yes l ↦ subst AreBytes (sym (block-at i l)) (part-bytes bytes blockSize (blockSize * i) all)
+    | no l ↦ subst AreBytes (sym (List·getD-eq-default (blocksOf bytes) [] {n = i} (omega (arith, how-many)))) none-bytes
+  ]
+
+  -- the first n of them
+  read-first : (n : ℕ) → Read (take n (blocksOf bytes))
+  read-first n = record {
+    some = λ i l.
+    let long = length-take n (blocksOf bytes) in
+    rw (getD-take n (blocksOf bytes) i [] (omega (arith, long))) (block-some i (omega (arith, long)));
+    bytes = λ i. elim (decLt i n) [
+      | yes l ↦ subst AreBytes (sym (getD-take n (blocksOf bytes) i [] l)) (block-bytes i)
+      | no l ↦ subst AreBytes (sym (List·getD-eq-default (take n (blocksOf bytes)) [] {n = i} (omega (arith, length-take n (blocksOf bytes))))) none-bytes
+    ];
+  }
+
+  read-all : Read (blocksOf bytes)
+  read-all = record { some = block-some; bytes = block-bytes }
+
+pub files-print-the-rules : FilesPrintTheRules
+files-print-the-rules bytes all = record {
+  text = by-the-rules (blocksOf bytes) (read-all bytes all) .0;
+  states = λ n. sym (end-keeps beginning (take n (blocksOf bytes))) ∙ by-the-rules (take n (blocksOf bytes)) (read-first bytes all n) .1;
+  demands = λ b n. demand-3-after (setUpOf (blocksOf bytes)) (given (getD (blocksOf bytes) 0 []) (b .opens) (b .setup) (block-bytes bytes all 0)) (plain (take n (eventsOf (blocksOf bytes))));
+}
+
+-- ---- a file whose blocks are all accepted
+abbrev AllUsed : ℕ → List (List ℕ) → Type 0
+AllUsed index blocks = (i : ℕ) → i < length blocks → refusalOf (getD blocks i []) (index + i) ≡ 0
+
+-- ends with the tasks' lines
+end-lines : (index : ℕ) (blocks : List (List ℕ)) (lines : List ℕ) → AllUsed index blocks → endText index blocks lines ≡ lines
+unfolding endText
+end-lines index [] lines used = refl
+end-lines index (block ∷ blocks) lines used =
+    rw (eq-eqb (refusalOf block index) 0 (rw (add-zero index) at (used 0 (omega arith))))
+    (end-lines (suc index) blocks lines (λ i l. rw (suc-add index i, ← (add-suc index i)) (used (suc i) (omega arith))))
+
+pub accepted-is-a-run : AcceptedIsARun
+unfolding fileText fileState
+accepted-is-a-run [] a = absurd (omega (arith, none-refused, a .begins .opens))
+accepted-is-a-run (first ∷ later) a =
+    let open-first = eq-eqb (refusalOf first 0) 0 (a .begins .opens) in
+    let set-up = eq-eqb (setUpRefusal (firstSetUp first)) 0 (a .begins .setup) in
+    let used : AllUsed 1 later = λ i l. let e : 1 + i ≡ suc i = omega arith in rw e (a .follow (suc i) (omega arith)) in
     record {
-      given = G;
-      state = sym (end-keeps beginning (first ∷ later)) ∙ W .1;
-      text = rw (end-totals 1 later (totalsText (after (setUpOf first) (plain es)) (setUpOf first .tasks)) (λ i l. let e : 1 + i ≡ suc i = omega arith in rw e (a .follow i l))) at (W .0);
-      demands = λ n. (links-highest-after (setUpOf first) G (plain (take n es)), one-holder-after (setUpOf first) G (plain (take n es)), chains-end-after (setUpOf first) G (plain (take n es)));
+      text = rw (open-first, set-up, end-lines 1 later _ used);
+      states = λ n l. rw (open-first, set-up);
     }

@@ -29,8 +29,9 @@ use Rattle.blocks.specs.declared.Verdict.the-variants.{Used, Refused}
 use Rattle.blocks.proofs.Numbers.{judge-none}
 use Rattle.blocks.proofs.Limits.{used-index, used-events}
 use Rattle.texts.specs.Lines.{firstText, blockText, setUpText}
-use Rattle.stepping.specs.Pages.{wide, tasksText, beginning, nextPage}
-use Rattle.stepping.specs.Files.{pages, refusalOf, partOf, setUpOf, answersText}
+use Rattle.stepping.specs.Pages.{wide, beginning, nextPage}
+use Rattle.stepping.specs.Files.{refusalOf, partOf, answersText, tasksText}
+use Rattle.stepping.specs.Program.{pages}
 use Rattle.stepping.specs.declared.Session.{Session}
 use Rattle.locking.proofs.Runs.{played-runs}
 use Rattle.stepping.proofs.Answers.{answers-told}
@@ -102,7 +103,7 @@ pages-over index events s (read ∷ reads) = rw (pages-over index events s reads
 
 -- ---- the first block
 -- a part of bytes is of bytes
-part-bytes : (block : List ℕ) (n k : ℕ) → AreBytes block → AreBytes (take n (drop k block))
+pub part-bytes : (block : List ℕ) (n k : ℕ) → AreBytes block → AreBytes (take n (drop k block))
 part-bytes block n k all i = elim (decLt i n) [
   | yes l ↦ rw (getD-take n (drop k block) i 0 l, getD-drop k block i 0) (all (k + i))
   | no l ↦ rw (List·getD-eq-default (take n (drop k block)) 0 {n = i} (omega (arith, length-take n (drop k block)))) (omega arith)
@@ -112,22 +113,25 @@ start-small : (bytes : List ℕ) → AreBytes bytes → setUpIn bytes .start ≤
 unfolding setUpIn startIn
 start-small bytes all = omega (arith, all 4, all 5, all 6, all 7)
 
+abbrev pub firstSetUp : List ℕ → SetUp
+firstSetUp first = setUpIn (partOf first 0)
+
 module _ (first : List ℕ) where
-  pub first-start : refusalOf first 0 ≡ 0 → AreBytes first → setUpOf first .start ≤ lastClock
+  pub first-start : refusalOf first 0 ≡ 0 → AreBytes first → firstSetUp first .start ≤ lastClock
   first-start ok all = let u = used-of first 0 ok in rw (u .1) (start-small _ (part-bytes first (u .0) payloadAt all))
 
   pub first-refused : length first ≢ 0 → refusalOf first 0 ≢ 0 → nextPage beginning first ≡ (overAt 0 0 (fresh noSetUp), blockText 0 (refusalOf first 0))
   unfolding beginning
   first-refused some d = page-refused 0 0 (fresh noSetUp) first some d
 
-  pub set-up-refused : refusalOf first 0 ≡ 0 → setUpRefusal (setUpOf first) ≢ 0 → nextPage beginning first ≡ (overAt 0 0 (fresh noSetUp), setUpText (setUpRefusal (setUpOf first)))
+  pub set-up-refused : refusalOf first 0 ≡ 0 → setUpRefusal (firstSetUp first) ≢ 0 → nextPage beginning first ≡ (overAt 0 0 (fresh noSetUp), setUpText (setUpRefusal (firstSetUp first)))
   unfolding nextPage beginning begin
   set-up-refused ok d = let u = used-of first 0 ok in
       let e = rw (u .1) at d in
       rw (ne-eqb (length first) 0 (used-long first 0 ok), u .1, ne-eqb _ 0 e, ne-eqb _ 0 e)
 
-  pub set-up-given : refusalOf first 0 ≡ 0 → setUpRefusal (setUpOf first) ≡ 0
-      → let c = setUpOf first in
+  pub set-up-given : refusalOf first 0 ≡ 0 → setUpRefusal (firstSetUp first) ≡ 0
+      → let c = firstSetUp first in
       nextPage beginning first ≡ (at 1 0 (begin c .state), firstText (c .processors) (c .tasks) (c .start))
   unfolding nextPage beginning begin fresh cleared
   set-up-given ok good = let u = used-of first 0 ok in

@@ -7,9 +7,7 @@ use lib.ListN.{length}
 use Rattle.search.specs.Words.{if_then_else_, _is_}
 use Rattle.input.specs.Limits.{mostTasks}
 use Rattle.input.specs.Layout.{setUpIn, eventCount}
-use Rattle.protocol.specs.Words.{task}
 use Rattle.protocol.specs.Events.{begin, noSetUp, fresh}
-use Rattle.protocol.specs.declared.State.{State}
 use Rattle.protocol.specs.declared.Reply.{Reply}
 use Rattle.states.specs.Writing.{written}
 use Rattle.locking.specs.Playing.{playedTo, told}
@@ -18,7 +16,8 @@ use Rattle.blocks.specs.Verdicts.{verdict, usedPart}
 use Rattle.blocks.specs.declared.Verdict.{Verdict}
 use Rattle.blocks.specs.declared.Verdict.the-variants.{Used, Refused}
 use Rattle.texts.specs.Texts.{eachText}
-use Rattle.texts.specs.Lines.{lineLimit, firstText, eventText, taskLineText, blockText, setUpText}
+use Rattle.texts.specs.Lines.{lineLimit, firstText, eventText, blockText, setUpText}
+use Rattle.stepping.specs.Files.{tasksText}
 use Rattle.stepping.specs.declared.Session.{Session}
 use Rattle.stepping.specs.declared.Page.{Page}
 
@@ -29,10 +28,6 @@ wide = 18446744073709551616
 -- the lines of the first of some events, on so many processors, numbered on from `events`
 abbrev pub eventsText : (ℕ → List ℕ) → ℕ → ℕ → ℕ → List ℕ
 eventsText line processors events = eachText (λ n. eventText ((events + suc n) % wide) processors (line n))
-
--- the lines of the first tasks
-abbrev pub tasksText : State → ℕ → List ℕ
-tasksText s = eachText (λ t. taskLineText t (task s t .totals))
 
 -- before the first block
 unfoldable pub beginning : Session

@@ -10,7 +10,8 @@ ghost use Rattle.input.specs.Limits.{mostTasks};
 ghost use Rattle.states.specs.Writing.{lineSize};
 ghost use Rattle.texts.specs.Texts.{Put};
 ghost use Rattle.texts.specs.Lines.{eventText, taskLineText, lineLimit};
-ghost use Rattle.stepping.specs.Pages.{eventsText, tasksText};
+ghost use Rattle.stepping.specs.Files.{tasksText};
+ghost use Rattle.stepping.specs.Pages.{eventsText};
 
 // An event's line from a place on; gives the place behind it.
 fn put_event(out: &mut [u8], at: usize, number: u64, processors: usize, line: &[u8]) -> usize

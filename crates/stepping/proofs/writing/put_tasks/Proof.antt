@@ -7,7 +7,7 @@ use borrow.Author.Needs.{needs}
 use Rattle.texts.specs.Texts.{eachText, Put}
 use Rattle.texts.specs.Lines.{lineLimit}
 use Rattle.texts.proofs.Laws.{put-none, put-more}
-use Rattle.stepping.specs.Pages.{tasksText}
+use Rattle.stepping.specs.Files.{tasksText}
 use Rattle.stepping.proofs.writing.put_tasks.Statement.{statement}
 use Rattle.stepping.proofs.writing.put_tasks.Tie as tie
 

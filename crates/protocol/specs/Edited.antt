@@ -1,0 +1,35 @@
+-- What an accepted event does to tasks and groups, whatever the scheduler does: its edits without the scheduler's moves. The law
+-- `step-does` in proofs/Edited ties it to the rules of 'Events'. c is the set-up of s.
+use Prim.Native.Nat.{ℕ}
+use mathlib.Core.Bool.{_||_}
+use Rattle.search.specs.Words.{if_then_else_, _is_}
+use Rattle.input.specs.Kinds.{arrival, finish, request as asking, completion}
+use Rattle.setups.specs.Naming.{groupOf}
+use Rattle.input.specs.declared.SetUp.{SetUp}
+use Rattle.input.specs.declared.Event.{Event}
+use Rattle.protocol.specs.Words.{nobody, holder, len}
+use Rattle.protocol.specs.Locks.{openOfKind, opens, queues, closes, frees, passes, arriveEdit, finishEdit}
+use Rattle.protocol.specs.declared.State.{State}
+
+-- a request is open at once, or joins the queue
+unfoldable pub requestEdit : SetUp → ℕ → ℕ → State → State
+requestEdit c t r s =
+    let g = groupOf c r in
+    if openOfKind c s t r || holder s g is nobody then opens t r g s else queues c t r g s
+
+-- a completed request is closed; outermost, the group is free, or its next becomes holder
+unfoldable pub completeEdit : SetUp → ℕ → ℕ → State → State
+completeEdit c t r s =
+    let g = groupOf c r in
+    let closed = closes t s in
+    if openOfKind c closed t r then closed
+    else if len s g is 0 then frees g closed
+    else passes g (frees g closed)
+
+unfoldable pub edited : SetUp → Event → State → State
+edited c e s =
+    if e .kind is arrival then arriveEdit c (e .task) s
+    else if e .kind is finish then finishEdit (e .task) s
+    else if e .kind is asking then requestEdit c (e .task) (e .resource) s
+    else if e .kind is completion then completeEdit c (e .task) (e .resource) s
+    else s
