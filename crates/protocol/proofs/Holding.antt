@@ -2,7 +2,7 @@
 use Prim.Native.Nat.{ℕ, zero, suc, _<_, _≤_}
 use mathlib.Core.Path.{_≡_, refl, sym, ap, subst, _∙_}
 use mathlib.Core.Bool.{_&&_}
-use mathlib.Core.Logic.{_≢_, _⊎_, inl, inr, ⊎-elim, _↔_}
+use mathlib.Core.Logic.{_≢_, _⊎_, inl, inr, ⊎-elim}
 use native.Mathlib.Omega.{arith}
 use native.Mathlib.Decide.{ℕ-discrete}
 use borrow.Author.Tests.{le-leb, lt-leb, ne-eqb, eq-eqb, leb-true}
@@ -13,17 +13,18 @@ use Rattle.processors.specs.Limits.{processors, tasks, nobody, preemptable}
 use Rattle.processors.specs.Words.{modeOf, isRunnable as isRunnableJob, isAhead as isAheadJob}
 use Rattle.scheduler.specs.Placed.{Settled, Counted}
 use Rattle.scheduler.proofs.Laws.{counted-law}
+use Rattle.placement.proofs.Testing.{placed-of-test, test-of-placed}
 use Rattle.input.specs.Limits.{mostTasks, short}
 use Rattle.input.specs.Words.{kind}
 use Rattle.setups.specs.Naming.{groupOf}
 use Rattle.protocol.specs.Words.{absent, active, spinning, suspended, standingNo, task, stand, asked, holder, len, waiter}
 use Rattle.protocol.specs.Ranks.{jobs}
-use Rattle.protocol.specs.Demands.{isRunnable, isAhead, PrioritiesApart, LinksHighest, OneHolder, Waiting, WaitsFor, ChainsEnd, OnePlace}
+use Rattle.protocol.specs.Demands.{isRunnable, isAhead, PrioritiesApart, LinksHighest, OneHolder, Waiting, WaitsFor, ChainsEnd, OnePlace, PlacedAsDemanded}
 use Rattle.protocol.specs.declared.Lock.the-variants.{Short, Long}
 use Rattle.protocol.specs.declared.Standing.{Standing}
 use Rattle.protocol.specs.declared.Standing.the-variants.{Absent, Active, Waiting as WaitingFor}
 use Rattle.protocol.specs.declared.State.{State}
-use Rattle.protocol.proofs.Statements.{Grouped, Sound, SoundCounting}
+use Rattle.protocol.proofs.Statements.{Grouped, Sound}
 use Rattle.protocol.proofs.Begin.{accepted-grouped}
 use Rattle.protocol.proofs.Ranks.{ranks-apart}
 use Rattle.protocol.proofs.Told.{rank-told, mode-active, mode-spin, mode-sleep, mode-absent}
@@ -86,35 +87,14 @@ module _ (s : State) where
         omega (arith, L .many, r, e);
   }
 
--- 'linked jobs as demand 3 says': the sound state with the counting form in place of the exchange form
-pub sound-counting : (s : State) → Sound s ↔ SoundCounting s
-sound-counting s = (
-  (λ Q.
-      let P = Q .placed in
-      record {
-        setup = Q .setup;
-        clean = Q .clean;
-        count = Q .count;
-        times = Q .times;
-        sized = Q .steady .sized;
-        blank = Q .steady .blank;
-        locks = Q .steady .locks;
-        settled = P .settled;
-        highest = counted s _ (Q .count) (P .settled) (counted-law (s .processors) (jobs (s .setup) s) (P .settled) .0 P);
-      }),
-  λ Q. record {
-    setup = Q .setup;
-    clean = Q .clean;
-    count = Q .count;
-    times = Q .times;
-    steady = record {
-      sized = Q .sized;
-      blank = Q .blank;
-      locks = Q .locks;
-    };
-    placed = counted-law (s .processors) (jobs (s .setup) s) (Q .settled) .1 (uncounted s _ (Q .count) (Q .highest));
-  },
-)
+-- what row 9 asks of links and placements is what is settled, and linked jobs as demand 3 says
+pub placed-demanded : PlacedAsDemanded
+placed-demanded s Z e =
+    let p = s .processors in
+    let j = jobs (s .setup) s in (
+      (λ t. let P = placed-of-test p j Z t in (P .settled, counted s _ e (P .settled) (counted-law p j (P .settled) .0 P))),
+      λ x. test-of-placed p j (counted-law p j (x .0) .1 (uncounted s _ e (x .1))),
+    )
 
 module _ (s : State) (Q : Sound s) where
   G : Grouped (s .setup)
@@ -127,7 +107,9 @@ module _ (s : State) (Q : Sound s) where
       ranks-apart (s .setup) G s nobody (Q .steady .locks) t u h l (a .1) (b .1) e
 
   pub links-highest : LinksHighest s (s .setup .processors)
-  links-highest = sound-counting s .0 Q .highest
+  links-highest =
+      let P = Q .placed in
+      counted s _ (Q .count) (P .settled) (counted-law (s .processors) (jobs (s .setup) s) (P .settled) .0 P)
 
   pub one-holder : OneHolder s
   one-holder t u i k a b e =

@@ -11,6 +11,8 @@ use Rattle.search.specs.Words.{if_then_else_, _is_, _isn't_}
 use Rattle.search.specs.Below.{howMany}
 use Rattle.processors.specs.Limits.{processors}
 use Rattle.processors.specs.Words.{link, runs}
+use Rattle.scheduler.specs.Placed.{Sized, Settled}
+use Rattle.placement.specs.PlacedTest.{isPlaced}
 use Rattle.input.specs.Limits.{mostTasks, short}
 use Rattle.input.specs.Words.{kind}
 use Rattle.setups.specs.Refusals.{setUpRefusal}
@@ -20,7 +22,7 @@ use Rattle.input.specs.declared.SetUp.{SetUp}
 use Rattle.input.specs.declared.Event.{Event}
 use Rattle.protocol.specs.Words.{nobody, lastClock, absent, active, spinning, suspended, sum, task, stand, asked, depth, request, holder, len, waiter, group, noTask, noGroup}
 use Rattle.protocol.specs.Sound.{sound}
-use Rattle.protocol.specs.Ranks.{shortOpen, effective}
+use Rattle.protocol.specs.Ranks.{shortOpen, effective, jobs}
 use Rattle.protocol.specs.Situations.{situation, totalOf}
 use Rattle.protocol.specs.Refusals.{stepOf, judge}
 use Rattle.protocol.specs.Locks.{openOfKind, closes}
@@ -70,6 +72,11 @@ pub record LinksHighest (s : State) (m : ℕ) : Type 0 where
   pub highest : (t : ℕ) → t < mostTasks → Linked s t ↔ ((isRunnable s t ≡ true) × (howMany (isAhead s t) mostTasks < m))
   pub once : (k i : ℕ) → link (s .processors) k ≢ nobody → link (s .processors) k ≡ link (s .processors) i → k ≡ i
   pub many : howMany (λ k. link (s .processors) k isn't nobody) processors ≡ min m (howMany (isRunnable s) mostTasks)
+
+-- what the sound state asks of links and placements: what is settled of them, clause by clause, and linked jobs as this says
+abbrev pub PlacedAsDemanded : Type 0
+PlacedAsDemanded = (s : State) → Sized (s .processors) → s .processors .count ≡ s .setup .processors
+    → (isPlaced (s .processors) (jobs (s .setup) s) ≡ true) ↔ (Settled (s .processors) (jobs (s .setup) s) × LinksHighest s (s .setup .processors))
 
 -- ---- locks: two tasks that have a request open in one group are one task, the group's holder
 abbrev pub OneHolder : State → Type 0
