@@ -1,4 +1,4 @@
--- What the clauses of the sound state bound: depths and queues, and deadlines, and so the ranks. Assumes nothing.
+-- What the clauses of the sound state bound: depths, queues and deadlines, and so the ranks. Assumes nothing.
 use Prim.Native.Nat.{ℕ, _<_, _≤_}
 use mathlib.Core.Path.{_≡_, ap}
 use mathlib.Core.Bool.{true}

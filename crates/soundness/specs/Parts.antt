@@ -18,9 +18,10 @@ use Rattle.views.specs.Bounds.{jobsWithin}
 abbrev pub frameSound : State → Bool
 frameSound s = setUpRefusal (s .setup) is 0 && isClear (s .setup) && clockSound (s .setup) s && allBelow mostTasks (timesSound (s .setup) s)
 
--- past these, the view that the code tells is the rule's, whatever the depths and queues; a period has two bytes
+-- where they hold, the view that the code tells is the rule's, whatever the depths and queues; a period has two bytes
 abbrev pub ViewIsRuled : Type 0
-ViewIsRuled = (s : State) → ((t : ℕ) → period (s .setup) t < 65536) → frameSound s ≡ true → jobsWithin s ≡ jobs (s .setup) s
+ViewIsRuled =
+    (s : State) → ((t : ℕ) → period (s .setup) t < 65536) → frameSound s ≡ true → jobsWithin s ≡ jobs (s .setup) s
 
 -- the open requests, the waiting jobs and the groups
 abbrev pub locksSound : State → Bool
