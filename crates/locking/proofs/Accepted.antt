@@ -72,19 +72,13 @@ module _ (s : State) (e : Event) (Q : Sound s) (ok : judge s e ≡ 0) where
   charges t l = omega (arith, Q .times .tasks t .totals)
 
   charged-bounded : ((t : ℕ) → period (s .setup) t < 65536) → isBounded s₁ ≡ true
-  unfolding charged depth deadline
+  unfolding charged deadline
   charged-bounded short =
-      let L = steady-of s e Q ok in
       let T = charged-times s (stepOf s e) (Q .steady .sized) (λ u. Q .steady .locks .tasks u .inside) room (Q .times) in
-      within-bounds s₁ (record {
-        resources = grouped s e Q ok .few-resources;
-        due = λ t l. elim (ℕ-discrete (stand s₁ t) absent) [
-          | yes x ↦ omega (arith, T .tasks t .idle x)
-          | no x ↦ let y = T .tasks t .pending x in omega (arith, y .1, T .tasks t .arrived (y .0) .1, T .clock, short t)
-        ];
-        deep = λ t l. L .locks .tasks t .opened .few;
-        line = λ g l. L .blank .queues g .fits;
-      })
+      within-bounds s₁ (grouped s e Q ok .few-resources) (λ t l. elim (ℕ-discrete (stand s₁ t) absent) [
+        | yes x ↦ omega (arith, T .tasks t .idle x)
+        | no x ↦ let y = T .tasks t .pending x in omega (arith, y .1, T .tasks t .arrived (y .0) .1, T .clock, short t)
+      ])
 
   inside : e .task < mostTasks
   unfolding eventRows fieldsOf
@@ -115,5 +109,5 @@ module _ (s : State) (e : Event) (Q : Sound s) (ok : judge s e ≡ 0) where
         naming = refl;
         inside = inside;
         asks = λ k. record { bounded = charged-bounded short; inside = inside; placed = g-in (omega arith); room = asks-of s e Q ok k .room };
-        completes = λ k. record { bounded = charged-bounded short; inside = inside; placed = g-in (omega arith); some = (let E = ends-of s e Q ok k in omega (arith, E .some)); next = can-pass (groupOf (s .setup) (e .resource)) };
+        completes = λ k. record { bounded = charged-bounded short; inside = inside; placed = g-in (omega arith); some = (let E = ends-of s e Q ok k in omega (arith, E .some)); few = steady-of s e Q ok .locks .tasks (e .task) .opened .few; next = can-pass (groupOf (s .setup) (e .resource)) };
       }

@@ -1,5 +1,5 @@
 -- What the code of an accepted event needs of the state, which a charged sound state has.
-use Prim.Native.Nat.{ℕ, _<_}
+use Prim.Native.Nat.{ℕ, _<_, _≤_}
 use mathlib.Core.Path.{_≡_}
 use mathlib.Core.Bool.{true}
 use mathlib.Core.List.{List}
@@ -29,12 +29,13 @@ pub record CanRequest (s : State) (t g : ℕ) : Type 0 where
   pub placed : g < mostResources
   pub room : depth s t < mostRequests
 
--- t has a request open, and g, a group's place, can be handed over if some task waits for it
+-- t has a request open, no more than can be, and g, a group's place, can be handed over if some task waits for it
 pub record CanComplete (s : State) (t g : ℕ) : Type 0 where
   pub bounded : isBounded s ≡ true
   pub inside : t < mostTasks
   pub placed : g < mostResources
   pub some : 0 < depth s t
+  pub few : depth s t ≤ mostRequests
   pub next : 0 < len s g → CanPass s g
 
 pub record CanAct (s : State) (named : List ℕ) (e : Event) : Type 0 where

@@ -11,17 +11,16 @@ use Rattle.search.proofs.Tests.{tests, and-iff, and-left, allBelow-at}
 use Rattle.queue.specs.Limits.{capacity}
 use Rattle.queue.specs.Waiting.{isTidy}
 use Rattle.queue.specs.declared.Queue.{Queue}
-use Rattle.input.specs.Limits.{mostTasks, mostResources}
+use Rattle.input.specs.Limits.{mostTasks}
 use Rattle.input.specs.Words.{period}
 use Rattle.setups.specs.Refusals.{setUpRefusal}
 use Rattle.setups.proofs.Accepted.{accepted-iff}
-use Rattle.protocol.specs.Words.{mostRequests, noTask, task, group, stand, deadline, depth}
-use Rattle.protocol.specs.Ranks.{jobs}
-use Rattle.protocol.specs.Sound.{clockSound, timesSound, requestsSound, groupSound}
+use Rattle.protocol.specs.Words.{mostRequests, noTask, task, stand, deadline, depth}
+use Rattle.protocol.specs.Sound.{clockSound, timesSound, requestsSound}
 use Rattle.protocol.specs.declared.Task.{Task}
 use Rattle.protocol.specs.declared.State.{State}
 use Rattle.views.specs.Bounds.{latest, isBounded, jobsWithin}
-use Rattle.soundness.specs.Parts.{frameSound, locksSound}
+use Rattle.soundness.specs.Parts.{frameSound, ViewIsRuled}
 
 pub tidy-len : (q : Queue) → isTidy q ≡ true → q .len ≤ capacity
 unfolding isTidy
@@ -41,10 +40,6 @@ module _ (s : State) where
         omega (arith, ap (λ (x : Task). x .depth) (List·getD-eq-default (s .tasks) noTask past))
   ]
 
-  len-within : (g : ℕ) → groupSound (s .setup) s g ≡ true → group s g .queue .len ≤ capacity
-  unfolding groupSound
-  len-within g h = tidy-len (group s g .queue) ((simp and-iff at h) .0 .0 .0 .1)
-
   -- a period is a u16
   dated-within : clockSound (s .setup) s ≡ true → (t : ℕ) → period (s .setup) t < 65536 → timesSound (s .setup) s t ≡ true → task s t .deadline ≤ latest
   unfolding clockSound timesSound deadline
@@ -58,18 +53,14 @@ module _ (s : State) where
             omega (arith, y .0 .0 .0 (x .0) .1)
       ]
 
-  pub within : ((t : ℕ) → period (s .setup) t < 65536) → frameSound s ≡ true → locksSound s ≡ true → isBounded s ≡ true
+  within : ((t : ℕ) → period (s .setup) t < 65536) → frameSound s ≡ true → isBounded s ≡ true
   unfolding isBounded
-  within p f l =
+  within p f =
       let frame = simp and-iff at f in
-      let locks = simp and-iff at l in
       let accepted = accepted-iff (s .setup) .0 (eqb-true (setUpRefusal (s .setup)) 0 (frame .0 .0 .0)) in
       let dates = allBelow-at mostTasks (timesSound (s .setup) s) (frame .1) in
-      let opens = allBelow-at mostTasks (requestsSound (s .setup) s) (locks .0 .0) in
-      let groups = allBelow-at mostResources (groupSound (s .setup) s) (locks .1) in
-      simp tests ((accepted .resources, λ t h. (dated-within (frame .0 .1) t (p t) (dates t h), open-few t (opens t h))), λ g h. len-within g (groups g h))
+      simp tests (accepted .resources, λ t h. dated-within (frame .0 .1) t (p t) (dates t h))
 
-  -- so where the placement is tested, the view that the code tells is the rule's
-  pub view-ruled : ((t : ℕ) → period (s .setup) t < 65536) → frameSound s ≡ true → locksSound s ≡ true → jobsWithin s ≡ jobs (s .setup) s
-  unfolding jobsWithin
-  view-ruled p f l = rw (within p f l)
+pub view-ruled : ViewIsRuled
+unfolding jobsWithin
+view-ruled s p f = rw (within s p f)

@@ -38,9 +38,9 @@ fn locks_hold(state: State, named: [u8; SetUp::RESOURCES]) -> bool
     }
 }
 
-// Links and placements. The ranks are told only within their bounds, which the other clauses see to.
+// Links and placements. The ranks are told only within their bounds, which the set-up, the clock and the times see to.
 fn placement_holds(state: State) -> bool
-    requires { ⌜ (frameSound state ≡ true) × (locksSound state ≡ true) ⌝ }
+    requires { ⌜ frameSound state ≡ true ⌝ }
     ensures { λ r. ⌜ r ≡ placementSound state ⌝ }
 {
     let setup = state.setup;

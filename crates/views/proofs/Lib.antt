@@ -1,2 +1,3 @@
 pub mod Bounding
+pub mod Past
 pub mod Telling

@@ -1,4 +1,5 @@
--- Within which bounds the ranks of a state fit their type, and the view of jobs within them. A sound state is.
+-- Within which bounds the ranks of a state fit their type, and the view of jobs within them. Every state that the sound
+-- test has not refused by its set-up, clock and times is within them: `ViewIsRuled` of soundness/specs/Parts.
 use Prim.Native.Nat.{ℕ}
 use mathlib.Core.Bool.{Bool, _&&_}
 use mathlib.Core.List.{List}
@@ -6,29 +7,22 @@ use lib.Dec.{leb, ltb}
 use lib.ListN.{getD, replicate}
 use Rattle.search.specs.Words.{if_then_else_, _is_}
 use Rattle.search.specs.Below.{allBelow, anyBelow}
-use Rattle.queue.specs.Limits.{capacity}
 use Rattle.processors.specs.Words.{noJob}
 use Rattle.processors.specs.declared.Job.{Job}
 use Rattle.processors.specs.declared.Jobs.{Jobs}
 use Rattle.input.specs.Limits.{mostTasks, mostResources, short}
-use Rattle.protocol.specs.Words.{mostRequests, nobody, task, group}
+use Rattle.protocol.specs.Words.{nobody, task}
 use Rattle.protocol.specs.Ranks.{modeFor, jobs}
 use Rattle.protocol.specs.declared.Task.{Task}
-use Rattle.protocol.specs.declared.Group.{Group}
 use Rattle.protocol.specs.declared.State.{State}
 
 -- two to the 40: no deadline of a sound state is past it
 abbrev pub latest : ℕ
 latest = 1099511627776
 
-abbrev pub taskBounded : Task → Bool
-taskBounded x = leb (x .deadline) latest && leb (x .depth) mostRequests
-
-abbrev pub queueBounded : Group → Bool
-queueBounded x = leb (x .queue .len) capacity
-
+-- as many resources as have a place, and no deadline past the latest
 unfoldable pub isBounded : State → Bool
-isBounded s = leb (s .setup .resources) mostResources && allBelow mostTasks (λ t. taskBounded (task s t)) && allBelow mostResources (λ g. queueBounded (group s g))
+isBounded s = leb (s .setup .resources) mostResources && allBelow mostTasks (λ t. leb (task s t .deadline) latest)
 
 unfoldable pub noJobs : Jobs
 noJobs = record { of = replicate mostTasks noJob }

@@ -11,7 +11,8 @@ use queue::Queue;
 use tables::kind_at;
 ghost use mathlib.Core.Path.{_≡_};
 ghost use mathlib.Core.Bool.{true};
-ghost use Prim.Native.Nat.{_+_, _*_, _≤_, min};
+ghost use Prim.Native.Nat.{suc, _+_, _*_, _≤_, min};
+ghost use lib.Dec.{leb};
 ghost use lib.ListN.{getD, set};
 ghost use Rattle.search.specs.Words.{if_then_else_, _is_};
 ghost use Rattle.search.specs.Below.{allBelow, anyBelow};
@@ -19,38 +20,20 @@ ghost use Rattle.search.specs.Table.{table};
 ghost use Rattle.queue.specs.Limits.{capacity};
 ghost use Rattle.queue.specs.Waiting.{waiter};
 ghost use Rattle.input.specs.Limits.{mostTasks, mostResources, short, long};
-ghost use Rattle.protocol.specs.Words.{mostRequests, nobody, noTask, noGroup};
+ghost use Rattle.protocol.specs.Words.{nobody, noTask};
 ghost use Rattle.protocol.specs.Ranks.{own, leastOf, modeFor, longHeld};
-ghost use Rattle.views.specs.Bounds.{latest, taskBounded, queueBounded, isBounded, noJobs, jobsWithin, rankAt, jobWith};
+ghost use Rattle.views.specs.Bounds.{latest, isBounded, noJobs, jobsWithin, rankAt, jobWith};
 
 // No deadline of a sound state is past this.
 const LATEST: u64 = 1099511627776;
 
-fn is_task_bounded(task: Task) -> bool
-    ensures { λ r. ⌜ r ≡ taskBounded task ⌝ }
-{
-    (task.deadline <= LATEST) & (task.depth <= Task::REQUESTS)
-}
-
-fn are_tasks_bounded(state: State) -> bool
-    ensures { λ r. ⌜ r ≡ allBelow mostTasks (λ t. taskBounded (getD (state .tasks) t noTask)) ⌝ }
+fn are_deadlines_bounded(state: State) -> bool
+    ensures { λ r. ⌜ r ≡ allBelow mostTasks (λ t. leb (getD (state .tasks) t noTask .deadline) latest) ⌝ }
 {
     let mut ok = true;
     for t in 0..SetUp::TASKS {
         let task = state.tasks[t];
-        ok = ok & is_task_bounded(task);
-    }
-    ok
-}
-
-fn are_queues_bounded(state: State) -> bool
-    ensures { λ r. ⌜ r ≡ allBelow mostResources (λ g. queueBounded (getD (state .groups) g noGroup)) ⌝ }
-{
-    let mut ok = true;
-    for g in 0..SetUp::RESOURCES {
-        let group = state.groups[g];
-        let queue = group.queue;
-        ok = ok & (queue.len <= Queue::CAPACITY);
+        ok = ok & (task.deadline <= LATEST);
     }
     ok
 }
@@ -59,7 +42,7 @@ fn is_bounded(state: State) -> bool
     ensures { λ r. ⌜ r ≡ isBounded state ⌝ }
 {
     let setup = state.setup;
-    (setup.resources <= SetUp::RESOURCES) & are_tasks_bounded(state) & are_queues_bounded(state)
+    (setup.resources <= SetUp::RESOURCES) & are_deadlines_bounded(state)
 }
 
 // A task's own rank: earlier deadline, then lower number.
@@ -96,13 +79,23 @@ fn least(a: u64, b: u64) -> u64
     if a < b { a } else { b }
 }
 
+// How many places of a queue of `len` to read: each from the capacity on reads nobody, so one of those is enough.
+fn read_places(len: usize) -> usize
+    ensures { λ r. ⌜ r ≡ min len (suc capacity) ⌝ }
+{
+    if len <= Queue::CAPACITY {
+        len
+    } else {
+        Queue::CAPACITY + 1
+    }
+}
+
 // The least of `rank` and the ranks of those that wait.
 fn least_waiting(ranks: [u64; SetUp::TASKS], queue: Queue, rank: u64) -> u64
-    requires { ⌜ queue .len ≤ capacity ⌝ }
     ensures { λ r. ⌜ r ≡ leastOf (λ i. rankAt ranks (waiter queue i)) (queue .len) rank ⌝ }
 {
     let mut best = rank;
-    for i in 0..queue.len {
+    for i in 0..read_places(queue.len) {
         best = least(rank_at(ranks, queue.waiter(i)), best);
     }
     best
@@ -141,11 +134,13 @@ fn held_of(state: State) -> [u8; SetUp::TASKS]
     held
 }
 
-// A short request is open among the first `depth`.
+// A short request is open among the first `depth`. A place past the limit reads nobody, whose kind reads short.
 fn holds_short(kinds: [u8; SetUp::RESOURCES], requests: [u8; Task::REQUESTS], depth: usize) -> bool
-    requires { ⌜ depth ≤ mostRequests ⌝ }
     ensures { λ r. ⌜ r ≡ anyBelow depth (λ i. getD kinds (getD requests i nobody) 0 is short) ⌝ }
 {
+    if depth > Task::REQUESTS {
+        return true;
+    }
     let mut some = false;
     for i in 0..depth {
         some = some | (kind_at(kinds, requests[i]) == SetUp::SHORT);
@@ -173,7 +168,6 @@ fn mode_for(standing: Standing, holds: bool) -> Mode
 
 // The job of a task with its effective rank.
 fn job_with(kinds: [u8; SetUp::RESOURCES], task: Task, rank: u64) -> Job
-    requires { ⌜ task .depth ≤ mostRequests ⌝ }
     ensures { λ r. ⌜ r ≡ jobWith kinds task rank ⌝ }
 {
     let requests = task.requests;

@@ -2,7 +2,7 @@ use Prim.Native.Nat.{_+_}
 use borrow.Author.Needs.{needs}
 use Rattle.protocol.specs.Events.{arriveEvent}
 use Rattle.protocol.specs.Locks.{arriving}
-use Rattle.locking.proofs.Bounded.{bounds, task-bounded}
+use Rattle.locking.proofs.Bounded.{task-bounded}
 use Rattle.locking.proofs.events.arrival.Statement.{statement}
 use Rattle.locking.proofs.events.arrival.Tie as tie
 
@@ -33,9 +33,8 @@ arrive-requires c κs =
     let task-at = c .before .before .before .before .task-at in
     let period-at = c .before .before .period-at in
     let s = start .args .state in
-    let b = bounds s (start .pre .1) in
     rw (c .with-task .ensures, c .before .arrived .ensures, task-at .ensures)
-    (task-bounded s (start .pre .1) (start .args .t) (arriving (s .clock) (s .clock + period-at .result)) (search needs) (b .deep (start .args .t) (start .pre .0)))
+    (task-bounded s (start .pre .1) (start .args .t) (arriving (s .clock) (s .clock + period-at .result)) (search needs))
 
 returns : tie.Need-returns
 unfolding arriveEvent

@@ -5,18 +5,15 @@ use borrow.Author.Tests.{eqb-false}
 use Rattle.setups.specs.Naming.{groupOf}
 use Rattle.protocol.specs.Words.{depth, waiter, request, len}
 use Rattle.protocol.specs.Locks.{openOfKind, closes}
-use Rattle.locking.proofs.Bounded.{bounds, closes-bounded, closes-pass}
+use Rattle.locking.proofs.Bounded.{closes-bounded, closes-depth, closes-pass}
 use Rattle.locking.proofs.Branching.{complete-inner, complete-short, complete-long}
 use Rattle.locking.proofs.events.complete.Statement.{statement}
 use Rattle.locking.proofs.events.complete.Tie as tie
 
 close-request-requires : tie.Need-close-request-requires
-unfolding depth
 close-request-requires c κs =
-    let start = c .before .before .before in
-    let s = start .args .state in
-    let can = start .pre .1 in
-    (can .inside, can .some, bounds s (can .bounded) .deep (start .args .t) (can .inside))
+    let can = c .before .before .before .pre .1 in
+    (can .inside, can .some, can .few)
 
 task-at-requires : tie.Need-task-at-requires
 task-at-requires c κs = search needs
@@ -34,11 +31,12 @@ group-at-requires : tie.Need-group-at-requires
 group-at-requires c κs = search needs
 
 has-kind-requires : tie.Need-has-kind-requires
+unfolding depth
 has-kind-requires c κs =
     let start = c .before .before .before .before .before .before .before .before .before .before .before .before in
-    let s = start .args .state in
-    let can = start .pre .1 in
-    rw (c .before .before .before .before .before .before .task-at .ensures, c .before .before .before .before .before .before .before .before .close-request .ensures) (bounds _ (closes-bounded s (can .bounded) (start .args .t) (can .inside)) .deep (start .args .t) (can .inside))
+    let task-at = c .before .before .before .before .before .before .task-at in
+    let close-request = c .before .before .before .before .before .before .before .before .close-request in
+    rw (task-at .ensures, close-request .ensures) (omega (arith, start .pre .1 .few, closes-depth (start .args .state) (start .args .t) (start .args .t)))
 
 complete-short-requires : tie.Need-complete-short-requires
 unfolding groupOf len

@@ -11,7 +11,7 @@ free-group-requires c κs = search needs
 give-way-requires : tie.Need-give-way-requires
 give-way-requires c κs =
     let start = c .before in
-    rw (c .free-group .ensures) (frees-bounded (start .args .state) (start .pre .0) (start .args .g) (start .pre .1))
+    rw (c .free-group .ensures) (frees-bounded (start .args .state) (start .pre .0) (start .args .g))
 
 pass-group-requires : tie.Need-pass-group-requires
 unfolding frees
@@ -32,9 +32,9 @@ arrive-requires c κs =
     let s = start .args .state in
     let g = start .args .g in
     let can = way-pass (s .setup) (start .args .t) (frees g s) g (frees-pass s g (start .pre .2 (c .before .if1 .left))) in
-    let free = frees-bounded s (start .pre .0) g (start .pre .1) in
+    let free = frees-bounded s (start .pre .0) g in
     rw (c .pass-group .ensures, give-way .ensures, free-group .ensures)
-    (passes-bounded (givesWay (s .setup) (start .args .t) (frees g s)) (way-bounded (s .setup) (start .args .t) (frees g s) free) g (start .pre .1) can)
+    (passes-bounded (givesWay (s .setup) (start .args .t) (frees g s)) (way-bounded (frees g s) free (s .setup) (start .args .t)) g (can .inside))
 
 returns : tie.Need-returns
 returns c =

@@ -1,7 +1,7 @@
 use borrow.Author.Needs.{needs}
 use Rattle.protocol.specs.Events.{finishEvent}
 use Rattle.protocol.specs.Locks.{departing}
-use Rattle.locking.proofs.Bounded.{bounds, task-bounded, leaves-told}
+use Rattle.locking.proofs.Bounded.{task-bounded, leaves-told}
 use Rattle.locking.proofs.events.finish.Statement.{statement}
 use Rattle.locking.proofs.events.finish.Tie as tie
 
@@ -28,9 +28,8 @@ returns c =
     let departed = c .before .before .before .departed in
     let task-at = c .before .before .before .before .task-at in
     let s = start .args .state in
-    let b = bounds s (start .pre .1) in
     rw (c .leave .ensures, c .before .jobs-of .ensures, with-task .ensures, departed .ensures, task-at .ensures)
-    (leaves-told _ _ (task-bounded s (start .pre .1) (start .args .t) departing (search needs) (b .deep (start .args .t) (start .pre .0))))
+    (leaves-told _ _ (task-bounded s (start .pre .1) (start .args .t) departing (search needs)))
 
 pub finish-spec : {M : Type 1} → statement M
 finish-spec =

@@ -94,7 +94,7 @@ returns-3 c =
     let s = start .args .state in
     let h = rw (has-kind .ensures, kind-at .ensures, task-at .ensures, group-at .ensures, number-at .ensures, start .pre .0) at (if1 .left) in
     let can = start .pre .1 in
-    let bounded = queues-bounded s (can .bounded) (groupOf (s .setup) (start .args .r)) (can .placed) (s .setup) (start .args .t) (start .args .r) (can .inside) in
+    let bounded = queues-bounded s (can .bounded) (s .setup) (start .args .t) (start .args .r) (groupOf (s .setup) (start .args .r)) (can .inside) in
     rw (c .leave .ensures, c .before .jobs-of .ensures, queue-request .ensures, number-at .ensures, start .pre .0)
     (leaves-told _ _ bounded ∙ sym (request-wait (s .setup) (start .args .t) (start .args .r) s h (λ e. c .before .before .if2 .left (kind-at .ensures ∙ e))))
 

@@ -49,8 +49,7 @@ locks-hold-requires : tie.Need-locks-hold-requires
 locks-hold-requires c κs = search needs
 
 placement-holds-requires : tie.Need-placement-holds-requires
-placement-holds-requires c κs =
-    (sym (c .before .before .before .frame-holds .ensures) ∙ c .before .before .if1 .taken, sym (c .before .locks-hold .ensures) ∙ c .if2 .taken)
+placement-holds-requires c κs = sym (c .before .before .before .frame-holds .ensures) ∙ c .before .before .if1 .taken
 
 all-empty-requires : tie.Need-all-empty-requires
 all-empty-requires c κs = search needs

@@ -1,6 +1,6 @@
 -- The loop's invariant: `some` says that a request passed is short. Assumes nothing.
 use Prim.Native.Nat.{_≤_, _-_}
-use mathlib.Core.Path.{_≡_}
+use mathlib.Core.Path.{_≡_, sym}
 use native.Mathlib.Omega.{arith}
 use native.Mathlib.Numerals.{add-one}
 use lib.ListN.{getD}
@@ -10,6 +10,7 @@ use Rattle.search.specs.Below.{anyBelow}
 use Rattle.search.proofs.Tables.{getD-any}
 use Rattle.input.specs.Limits.{short}
 use Rattle.protocol.specs.Words.{nobody}
+use Rattle.views.proofs.Past.{past-short}
 use Rattle.views.proofs.ranks.holds_short.Statement.{statement}
 use Rattle.views.proofs.ranks.holds_short.Tie as tie
 
@@ -18,6 +19,11 @@ Inv-loop kinds depth requests some₀ i₀ some i = (i ≤ depth) × (some ≡ a
 
 abbrev μ-loop : tie.MeasureT-loop
 μ-loop kinds depth requests some₀ i₀ some i = depth - i
+
+returns : tie.Need-returns Inv-loop μ-loop
+returns c =
+    let a = c .before .args in
+    sym (past-short (a .kinds) (a .t2) (a .depth) (search needs) (search needs))
 
 loop-holds : tie.Need-loop-holds Inv-loop μ-loop
 unfolding anyBelow
@@ -39,11 +45,11 @@ loop-again : tie.Need-loop-again Inv-loop μ-loop
 unfolding anyBelow
 loop-again c =
     let a = c .before .before .loop in
-    (search needs, rw (add-one, a .inv .1, c .kind-at .ensures, getD-any (c .before .before .before .args .t2) (a .i) nobody 0 (search needs)))
+    (search needs, rw (add-one, a .inv .1, c .kind-at .ensures, getD-any (c .before .before .before .before .args .t2) (a .i) nobody 0 (search needs)))
 
-returns : tie.Need-returns Inv-loop μ-loop
-returns c =
-    let e : c .before .loop .i ≡ c .before .before .args .depth = omega arith in
+returns-2 : tie.Need-returns-2 Inv-loop μ-loop
+returns-2 c =
+    let e : c .before .loop .i ≡ c .before .before .before .args .depth = omega arith in
     rw e at (c .before .loop .inv .1)
 
 pub holds-short-spec : {M : Type 1} → statement M
@@ -52,10 +58,11 @@ holds-short-spec =
     (tie.spec
     Inv-loop
     μ-loop
+    returns
     loop-holds
     array-read-kind-at
     kind-at-requires
     add-i
     loop-less
     loop-again
-    returns)
+    returns-2)

@@ -14,7 +14,7 @@ use Rattle.input.specs.Limits.{mostTasks, mostResources}
 use Rattle.protocol.specs.Ranks.{own, longHeld, effective}
 use Rattle.tables.proofs.Reading.{task-read, group-read}
 use Rattle.views.specs.Bounds.{noJobs, jobsWithin}
-use Rattle.views.proofs.Bounding.{resources-bounded, depth-bounded, queue-bounded}
+use Rattle.views.proofs.Bounding.{resources-bounded}
 use Rattle.views.proofs.Telling.{jobTold, jobs-told, raised, unraised, told}
 use Rattle.views.proofs.ranks.jobs_of.Statement.{statement}
 use Rattle.views.proofs.ranks.jobs_of.Tie as tie
@@ -62,12 +62,7 @@ array-read-least-waiting : tie.Need-array-read-least-waiting Inv-loop μ-loop
 array-read-least-waiting c = search needs
 
 least-waiting-requires : tie.Need-least-waiting-requires Inv-loop μ-loop
-least-waiting-requires c κs =
-    let start = c .before .before .before .before .before .before .before .before .before .before .before .before in
-    let s = start .args .t1 in
-    let g = getD (c .before .before .before .before .before .held-of .result) (c .before .before .before .before .loop .t) 0 in
-    let grouped : length (s .groups) ≡ mostResources = simp length-map at (start .good .0 .1 .1 .1 .1 .1 .0 .1 .0 .1) in
-    rw (group-read (s .groups) g (omega arith)) (queue-bounded s (sym (c .before .before .before .before .before .before .before .before .before .before .is-bounded .ensures) ∙ c .before .before .before .before .before .before .before .before .before .if1 .taken) g (omega arith))
+least-waiting-requires c κs = search needs
 
 mul-rank : tie.Need-mul-rank Inv-loop μ-loop
 mul-rank c = search needs
@@ -82,12 +77,7 @@ element-copy-out-task : tie.Need-element-copy-out-task Inv-loop μ-loop
 element-copy-out-task c = search needs
 
 job-with-requires : tie.Need-job-with-requires Inv-loop μ-loop
-job-with-requires c κs =
-    let start = c .before .before .before .before .before .before .before .before .before .before .before in
-    let s = start .args .t1 in
-    let t = c .before .before .before .loop .t in
-    let tasked : length (s .tasks) ≡ mostTasks = simp length-map at (start .good .0 .1 .1 .1 .1 .0 .1 .0 .1) in
-    rw (task-read (s .tasks) t (omega arith)) (depth-bounded s (sym (c .before .before .before .before .before .before .before .before .before .is-bounded .ensures) ∙ c .before .before .before .before .before .before .before .before .if1 .taken) t (search needs))
+job-with-requires c κs = search needs
 
 mul-t37 : tie.Need-mul-t37 Inv-loop μ-loop
 mul-t37 c = search needs

@@ -1,20 +1,24 @@
 -- The loop's invariant: `best` is the least of `rank` and the ranks of the waiters passed. Assumes nothing.
 use Prim.Native.Nat.{_≤_, _-_}
-use mathlib.Core.Path.{_≡_}
+use mathlib.Core.Path.{_≡_, _∙_}
 use native.Mathlib.Omega.{arith}
 use native.Mathlib.Numerals.{add-one}
 use borrow.Author.Needs.{needs}
 use Rattle.queue.specs.Waiting.{waiter}
 use Rattle.protocol.specs.Ranks.{leastOf}
 use Rattle.views.specs.Bounds.{rankAt}
+use Rattle.views.proofs.Past.{least-read}
 use Rattle.views.proofs.ranks.least_waiting.Statement.{statement}
 use Rattle.views.proofs.ranks.least_waiting.Tie as tie
 
 abbrev Inv-loop : tie.InvT-loop
-Inv-loop ranks queue rank best₀ i₀ i-end best i = (i ≤ queue .len) × (best ≡ leastOf (λ i. rankAt ranks (waiter queue i)) i rank)
+Inv-loop ranks queue rank best₀ i₀ i-end best i = (i ≤ i-end) × (best ≡ leastOf (λ i. rankAt ranks (waiter queue i)) i rank)
 
 abbrev μ-loop : tie.MeasureT-loop
-μ-loop ranks queue rank best₀ i₀ i-end best i = queue .len - i
+μ-loop ranks queue rank best₀ i₀ i-end best i = i-end - i
+
+read-places-requires : tie.Need-read-places-requires Inv-loop μ-loop
+read-places-requires c κs = search needs
 
 loop-holds : tie.Need-loop-holds Inv-loop μ-loop
 unfolding leastOf
@@ -43,8 +47,9 @@ loop-again c =
 
 returns : tie.Need-returns Inv-loop μ-loop
 returns c =
-    let e : c .before .loop .i ≡ c .before .before .args .queue .len = omega arith in
-    rw e at (c .before .loop .inv .1)
+    let start = c .before .before .before in
+    let e : c .before .loop .i ≡ c .before .before .read-places .result = omega arith in
+    (rw (e, c .before .before .read-places .ensures) at (c .before .loop .inv .1)) ∙ least-read (start .args .queue) (search needs) (rankAt (start .args .ranks)) (start .args .rank)
 
 pub least-waiting-spec : {M : Type 1} → statement M
 least-waiting-spec =
@@ -52,6 +57,7 @@ least-waiting-spec =
     (tie.spec
     Inv-loop
     μ-loop
+    read-places-requires
     loop-holds
     waiter-requires
     rank-at-requires
