@@ -9,9 +9,9 @@ use native.Mathlib.Decide.{ℕ-discrete}
 use lib.ListN.{length, drop, length-drop}
 use lib.Seq.{length-take-le}
 use borrow.Author.Tests.{ne-eqb}
-use Rattle.search.specs.Rows.{firstOf, standsAt, FirstAt}
+use Rattle.search.specs.Rows.{firstOf, standsAt, FirstAt, NoneApplies}
 use Rattle.search.proofs.Tests.{tests}
-use Rattle.search.proofs.Refusals.{Given, NoneApplies, given-iff, none-iff, number-iff}
+use Rattle.search.proofs.Refusals.{Given, given-iff, none-iff, number-iff}
 use Rattle.blocks.specs.Sizes.{payloadAt, payloadSize}
 use Rattle.blocks.specs.Numbers.{BlockNumbers}
 use Rattle.blocks.specs.Verdicts.{mostFor, count, usedSize, isFirst, blockRows, verdict, usedPart, numberOf, lengthOf}
@@ -54,6 +54,7 @@ module _ (block : List ℕ) (index : ℕ) where
   pub block-numbers : BlockNumbers block index
   unfolding blockRows
   block-numbers = record {
+    accepted = judge-none;
     size-wrong = given-at 30 0 (λ e. omega arith) refl;
     check-wrong = given-at 31 1 (λ e. omega arith) refl;
     number-wrong = given-at 32 2 (λ e. omega arith) refl;

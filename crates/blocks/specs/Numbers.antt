@@ -1,12 +1,13 @@
--- Document 01, 'Numbers handed back': each number of a block is given exactly when its row is the first that applies.
+-- Document 01, 'Numbers handed back': each number of a block is given exactly when its row is the first that applies, and 0 when none does.
 use Prim.Native.Nat.{ℕ}
 use mathlib.Core.Path.{_≡_}
 use mathlib.Core.List.{List}
 use mathlib.Core.Logic.{_↔_}
-use Rattle.search.specs.Rows.{FirstAt}
+use Rattle.search.specs.Rows.{FirstAt, NoneApplies}
 use Rattle.blocks.specs.Verdicts.{blockRows, verdict, numberOf}
 
 pub record BlockNumbers (block : List ℕ) (index : ℕ) : Type 0 where
+  pub accepted : (numberOf (verdict block index) ≡ 0) ↔ NoneApplies (blockRows block index)
   pub size-wrong : (numberOf (verdict block index) ≡ 30) ↔ FirstAt (blockRows block index) 0
   pub check-wrong : (numberOf (verdict block index) ≡ 31) ↔ FirstAt (blockRows block index) 1
   pub number-wrong : (numberOf (verdict block index) ≡ 32) ↔ FirstAt (blockRows block index) 2

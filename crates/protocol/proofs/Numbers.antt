@@ -1,11 +1,11 @@
--- Each number of an event is given exactly when its row is the first that applies. Assumes nothing.
+-- Each number of an event is given exactly when its row is the first that applies, and 0 when none does. Assumes nothing.
 use Prim.Native.Nat.{ℕ}
 use mathlib.Core.Path.{_≡_, refl}
 use mathlib.Core.Bool.{true}
 use mathlib.Core.Logic.{_≢_, _↔_}
 use native.Mathlib.Omega.{arith}
 use Rattle.search.specs.Rows.{standsAt, FirstAt}
-use Rattle.search.proofs.Refusals.{number-iff}
+use Rattle.search.proofs.Refusals.{none-iff, number-iff}
 use Rattle.input.specs.declared.Event.{Event}
 use Rattle.protocol.specs.Refusals.{eventRows, judge}
 use Rattle.protocol.specs.Numbers.{EventNumbers}
@@ -16,8 +16,9 @@ unfolding judge
 given-at s e n i d m = number-iff (eventRows s e) n i d m
 
 pub event-numbers : (s : State) (e : Event) → EventNumbers s e
-unfolding eventRows
+unfolding eventRows judge
 event-numbers s e = record {
+  accepted = none-iff (eventRows s e) refl;
   not-sound = given-at s e 9 0 (λ e. omega arith) refl;
   kind-unknown = given-at s e 10 1 (λ e. omega arith) refl;
   task-unknown = given-at s e 11 2 (λ e. omega arith) refl;

@@ -10,8 +10,9 @@ use lib.Dec.{ltb}
 use lib.ListN.{length}
 use borrow.Author.Tests.{ltb-true, eqb-false, eq-eqb, ne-eqb}
 use Rattle.search.specs.Words.{if_then_else_, _is_}
+use Rattle.search.specs.Rows.{NoneApplies}
 use Rattle.search.proofs.Tests.{tests}
-use Rattle.search.proofs.Refusals.{none-iff, NoneApplies}
+use Rattle.search.proofs.Refusals.{none-iff}
 use Rattle.processors.specs.Limits.{processors}
 use Rattle.processors.specs.Words.{linkOf, runOf}
 use Rattle.scheduler.specs.Placed.{Served}

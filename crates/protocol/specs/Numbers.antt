@@ -1,12 +1,13 @@
--- Document 01, 'Numbers handed back': each number of an event is given exactly when its row is the first that applies.
+-- Document 01, 'Numbers handed back': each number of an event is given exactly when its row is the first that applies, and 0 when none does.
 use mathlib.Core.Path.{_≡_}
 use mathlib.Core.Logic.{_↔_}
-use Rattle.search.specs.Rows.{FirstAt}
+use Rattle.search.specs.Rows.{FirstAt, NoneApplies}
 use Rattle.input.specs.declared.Event.{Event}
 use Rattle.protocol.specs.Refusals.{eventRows, judge}
 use Rattle.protocol.specs.declared.State.{State}
 
 pub record EventNumbers (s : State) (e : Event) : Type 0 where
+  pub accepted : (judge s e ≡ 0) ↔ NoneApplies (eventRows s e)
   pub not-sound : (judge s e ≡ 9) ↔ FirstAt (eventRows s e) 0
   pub kind-unknown : (judge s e ≡ 10) ↔ FirstAt (eventRows s e) 1
   pub task-unknown : (judge s e ≡ 11) ↔ FirstAt (eventRows s e) 2

@@ -10,6 +10,7 @@ use lib.ListN.{length, getD}
 use borrow.Author.Tests.{eqb-true, eqb-false, not-true}
 use Rattle.search.specs.Words.{if_then_else_, _is_, _isn't_}
 use Rattle.search.specs.Rows.{Row, noRow, firstOf, isNumbered, isMissing, standsAt, FirstAt}
+pub use Rattle.search.specs.Rows.{NoneApplies}
 use Rattle.search.proofs.Tests.{never, and-left, and-right}
 
 -- row i is numbered n and applies, and no earlier row does
@@ -19,10 +20,6 @@ pub record Given (rows : List Row) (n : ℕ) : Type 0 where
   pub number : getD rows row noRow .0 ≡ n
   pub applies : getD rows row noRow .1 ≡ true
   pub earlier : (k : ℕ) → k < row → getD rows k noRow .1 ≡ false
-
--- no row applies
-abbrev pub NoneApplies : List Row → Type 0
-NoneApplies rows = (k : ℕ) → k < length rows → getD rows k noRow .1 ≡ false
 
 -- one row more, which does not apply
 later : (row : Row) (rows : List Row) (n : ℕ) → row .1 ≡ false → Given rows n → Given (row ∷ rows) n

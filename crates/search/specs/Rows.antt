@@ -3,7 +3,7 @@ use Prim.Native.Nat.{ℕ, zero, suc, _<_}
 use mathlib.Core.Path.{_≡_}
 use mathlib.Core.Bool.{Bool, true, false, _&&_}
 use mathlib.Core.List.{List, [], _∷_}
-use lib.ListN.{getD}
+use lib.ListN.{length, getD}
 use Rattle.search.specs.Words.{if_then_else_, _is_, _isn't_}
 
 infix 28 _when_
@@ -44,3 +44,7 @@ noRow = (0, false)
 pub record FirstAt (rows : List Row) (i : ℕ) : Type 0 where
   pub applies : getD rows i noRow .1 ≡ true
   pub earlier : (k : ℕ) → k < i → getD rows k noRow .1 ≡ false
+
+-- no row applies
+abbrev pub NoneApplies : List Row → Type 0
+NoneApplies rows = (k : ℕ) → k < length rows → getD rows k noRow .1 ≡ false

@@ -6,12 +6,12 @@ use native.Mathlib.Omega.{arith}
 use lib.Dec.{ltb}
 use Rattle.search.specs.Words.{_is_}
 use Rattle.search.proofs.Tests.{tests, never}
-use Rattle.search.proofs.Refusals.{none-iff, NoneApplies}
 use Rattle.input.specs.Limits.{long}
 use Rattle.input.specs.Words.{period, kind, someTask, someResource, somePair}
 use Rattle.setups.specs.Refusals.{inLimits, isStray, isLongInShort, setUpRows, setUpRefusal}
 use Rattle.setups.specs.Accepted.{Accepted}
 use Rattle.input.specs.declared.SetUp.{SetUp}
+use Rattle.setups.proofs.Numbers.{set-up-numbers}
 
 -- where the first passes the second does not
 pub and-none-iff : (a b : Bool) → ((a && b) ≡ false) ↔ (a ≡ true → b ≡ false)
@@ -26,18 +26,15 @@ and-none-iff a b = (there a b, back a b)
     back false b f = refl
 
 module _ (c : SetUp) where
-  no-row : setUpRefusal c ≡ 0 → NoneApplies (setUpRows c)
-  unfolding setUpRefusal setUpRows
-  no-row h = none-iff (setUpRows c) refl .0 h
-
   there : setUpRefusal c ≡ 0 → Accepted c
   unfolding setUpRows
   there h =
-      let limits = simp tests at (no-row h 0 (omega arith)) in
-      let periods = simp (tests, and-none-iff) at (no-row h 1 (omega arith)) in
-      let kinds = simp (tests, and-none-iff) at (no-row h 2 (omega arith)) in
-      let inside = simp (tests, and-none-iff) at (no-row h 3 (omega arith)) in
-      let nesting = simp (tests, and-none-iff) at (no-row h 4 (omega arith)) in
+      let none = set-up-numbers c .accepted .0 h in
+      let limits = simp tests at (none 0 (omega arith)) in
+      let periods = simp (tests, and-none-iff) at (none 1 (omega arith)) in
+      let kinds = simp (tests, and-none-iff) at (none 2 (omega arith)) in
+      let inside = simp (tests, and-none-iff) at (none 3 (omega arith)) in
+      let nesting = simp (tests, and-none-iff) at (none 4 (omega arith)) in
       record {
         processors = limits .0 .0 .0;
         tasks = limits .0 .0 .1;

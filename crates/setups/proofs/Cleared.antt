@@ -1,6 +1,7 @@
 -- A cleared set-up is clear, and its refusal and its groups' names are as before. Assumes nothing.
-use Prim.Native.Nat.{ℕ, zero, suc, _<_}
+use Prim.Native.Nat.{ℕ, zero, suc, _<_, _≤_, max}
 use native.Mathlib.Omega.{arith}
+use native.Mathlib.Decide.{decLt}
 use mathlib.Core.Path.{_≡_, refl, sym, ap, _∙_}
 use mathlib.Core.Bool.{Bool, true, false, not, _&&_}
 use mathlib.Core.List.{List, []}
@@ -15,13 +16,13 @@ use Rattle.search.proofs.Tests.{tests}
 use Rattle.input.specs.Limits.{mostTasks, mostResources, mostPairs, long}
 use Rattle.input.specs.Words.{period, kind, outerOf, innerOf, someTask, someResource, somePair}
 use Rattle.setups.specs.Refusals.{inLimits, isStray, isLongInShort, setUpRows, setUpRefusal}
-use Rattle.setups.specs.Accepted.{Accepted}
 use Rattle.setups.specs.Sized.{Sized}
-use Rattle.setups.specs.Naming.{joinedBy, namesAfter, names}
-use Rattle.setups.specs.Clearing.{below, cleared, emptyFrom, isClear}
+use Rattle.setups.specs.Naming.{areAlike, joinedBy, namesAfter, names}
+use Rattle.setups.specs.Clearing.{below, cleared, RefusalKept, NamesKept, emptyFrom, isClear}
 use Rattle.input.specs.declared.SetUp.{SetUp}
 use Rattle.setups.proofs.Lists.{keptBelow}
 use Rattle.setups.proofs.Accepted.{and-none-iff}
+use Rattle.setups.proofs.Names.{joined-past}
 
 -- ---- one table cleared from n on
 module _ (n most : ℕ) (l : List ℕ) where
@@ -48,15 +49,22 @@ module _ (n most : ℕ) (l : List ℕ) where
       go i m true e = refl
       go i m false e = (simp tests at h) i m (ltb-false i n e)
 
--- ---- tests of the places below n
+-- ---- tests and choices
+and-same : (t a b : Bool) → (t ≡ true → a ≡ b) → (t && a) ≡ (t && b)
+and-same true a b h = h refl
+and-same false a b h = refl
+
+if-either : (t : Bool) (l : List ℕ) → (if t then l else l) ≡ l
+if-either true l = refl
+if-either false l = refl
+
+-- tests of the places below n
 some-same : (n most : ℕ) (f g : ℕ → Bool) → ((i : ℕ) → i < n → i < most → f i ≡ g i) → anyBelow most (λ i. ltb i n && f i) ≡ anyBelow most (λ i. ltb i n && g i)
 unfolding anyBelow
 some-same n zero f g h = refl
-some-same n (suc k) f g h = rw (some-same n k f g (λ i l m. h i l (omega arith)), go (ltb k n) refl)
-  where
-    go : (t : Bool) → ltb k n ≡ t → (t && f k) ≡ (t && g k)
-    go true e = h k (ltb-true k n e) (omega arith)
-    go false e = refl
+some-same n (suc k) f g h =
+    let last = and-same (ltb k n) (f k) (g k) (λ e. h k (ltb-true k n e) (omega arith)) in
+    rw (some-same n k f g (λ i l m. h i l (omega arith)), last)
 
 -- the last of the five rows counts only where the first and the fourth do not apply
 last-row : (a b d e f g : Bool) → (a ≡ false → e ≡ false → f ≡ g)
@@ -135,33 +143,44 @@ module _ (c : SetUp) where
       let inn = kind-kept (innerOf c i) (s i m l .0 .1) (omega (arith, s i m l)) in
       rw (outer-kept i l m, inner-kept i l m, out, inn))
 
-  -- the refusal is as before, 0 too
-  pub cleared-refusal : setUpRefusal (cleared c) ≡ setUpRefusal c
+  refusal-same : setUpRefusal (cleared c) ≡ setUpRefusal c
   unfolding setUpRefusal setUpRows cleared
-  cleared-refusal = rw (periods-same, kinds-same, inside-same)
+  refusal-same = rw (periods-same, kinds-same, inside-same)
       (last-row (not (inLimits c)) (someTask c (λ t. period c t is 0)) (someResource c (λ r. ltb long (kind c r))) (somePair c (isStray c)) _ _ nesting-same)
 
   -- ---- the names
-  module _ (good : Accepted c) where
-    pair-same : (before : List ℕ) (i : ℕ) → joinedBy (cleared c) before i ≡ joinedBy c before i
-    unfolding joinedBy cleared
-    pair-same before i = go (ltb i (c .pairs)) refl
-      where
-        go : (t : Bool) → ltb i (c .pairs) ≡ t → joinedBy (cleared c) before i ≡ joinedBy c before i
-        go true e =
-            let l = ltb-true i (c .pairs) e in
-            let z = good .inside i l in
-            let out = kind-kept (outerOf c i) (z .0) (omega arith) in
-            let inn = kind-kept (innerOf c i) (z .1) (omega arith) in
-            rw (outer-kept i l (omega arith), inner-kept i l (omega arith), out, inn)
-        go false e = rw e
+  alike-kept : (a b : ℕ) → max a b < mostResources → areAlike (cleared c) a b ≡ areAlike c a b
+  unfolding cleared
+  alike-kept a b f = and-same (ltb a (c .resources) && ltb b (c .resources)) _ _ (λ h.
+      let z = simp tests at h in
+      rw (kind-kept a (z .0) (omega arith), kind-kept b (z .1) (omega arith)))
 
-    after-same : (n : ℕ) → namesAfter (cleared c) n ≡ namesAfter c n
-    unfolding namesAfter
-    after-same zero = refl
-    after-same (suc i) = pair-same (namesAfter (cleared c) i) i ∙ ap (λ (l : List ℕ). joinedBy c l i) (after-same i)
+  -- a pair that names a resource past the names changes none, whether it joins or not
+  pair-same : (i : ℕ) → i < mostPairs → joinedBy (cleared c) (namesAfter c i) i ≡ joinedBy c (namesAfter c i) i
+  unfolding joinedBy cleared
+  pair-same i m = go (ltb i (c .pairs)) refl
+    where
+      go : (t : Bool) → ltb i (c .pairs) ≡ t → joinedBy (cleared c) (namesAfter c i) i ≡ joinedBy c (namesAfter c i) i
+      go true e =
+          let l = ltb-true i (c .pairs) e in
+          elim (decLt (max (outerOf c i) (innerOf c i)) mostResources) [
+            | yes f ↦ rw (outer-kept i l m, inner-kept i l m, alike-kept (outerOf c i) (innerOf c i) f)
+            | no f ↦
+                let past = joined-past c i (outerOf c i) (innerOf c i) (omega arith) in
+                rw (outer-kept i l m, inner-kept i l m, past) (simp if-either)
+          ]
+      go false e = rw e
 
-    -- every group keeps its name
-    pub cleared-names : names (cleared c) ≡ names c
-    unfolding names
-    cleared-names = after-same mostPairs
+  after-same : (n : ℕ) → n ≤ mostPairs → namesAfter (cleared c) n ≡ namesAfter c n
+  unfolding namesAfter
+  after-same zero h = refl
+  after-same (suc i) h = rw (after-same i (omega arith)) (pair-same i h)
+
+-- the refusal is as before, 0 too
+pub cleared-refusal : RefusalKept
+cleared-refusal = refusal-same
+
+-- every group keeps its name
+pub cleared-names : NamesKept
+unfolding names
+cleared-names c = after-same c mostPairs (omega arith)

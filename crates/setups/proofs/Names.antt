@@ -12,11 +12,11 @@ use Rattle.search.proofs.Tables.{table-length, table-at}
 use Rattle.search.proofs.Tests.{tests}
 use Rattle.input.specs.Limits.{mostResources, mostPairs, nothing}
 use Rattle.input.specs.Words.{kind, outerOf, innerOf}
-use Rattle.setups.specs.Naming.{merged, isJoining, joinedBy, namesAfter, names, groupOf}
+use Rattle.setups.specs.Naming.{merged, joined, isJoining, joinedBy, namesAfter, names, groupOf}
 use Rattle.setups.specs.Groups.{Joins, Chained, alone, inward, outward, IsName}
 use Rattle.setups.specs.Accepted.{Accepted}
 use Rattle.input.specs.declared.SetUp.{SetUp}
-use Rattle.setups.proofs.Lists.{getD-map}
+use Rattle.setups.proofs.Lists.{getD-map, map-same}
 
 -- ---- of two names the higher gives way to the lower
 merged-cases : (a b x : ℕ) → ((x ≡ max a b) × (merged a b x ≡ min a b)) ⊎ ((x ≢ max a b) × (merged a b x ≡ x))
@@ -28,6 +28,9 @@ merged-cases a b x = go (eqb x (max a b)) refl
 
 merged-low : (a b x : ℕ) → merged a b x ≤ x
 merged-low a b x = ⊎-elim (λ p. omega arith) (λ p. omega arith) (merged-cases a b x)
+
+merged-less : (a b x : ℕ) → x < max a b → merged a b x ≡ x
+merged-less a b x h = ⊎-elim (λ p. omega arith) (λ p. p .1) (merged-cases a b x)
 
 merged-left : (a b : ℕ) → merged a b a ≡ min a b
 merged-left a b = ⊎-elim (λ p. p .1) (λ p. omega arith) (merged-cases a b a)
@@ -74,6 +77,28 @@ module _ (c : SetUp) where
   unfolding label namesAfter joinedBy
   label-skip i r e = rw e
 
+  -- no name is above its resource
+  low : (n r : ℕ) → r < mostResources → label c n r ≤ r
+  low zero r h = rw (label-none r h) (omega arith)
+  low (suc i) r h = go (isJoining c i) refl (low i r h)
+    where
+      go : (t : Bool) → isJoining c i ≡ t → label c i r ≤ r → label c (suc i) r ≤ r
+      go true e l = rw (label-join i r e h) (omega (arith, merged-low (label c i (outerOf c i)) (label c i (innerOf c i)) (label c i r)))
+      go false e l = rw (label-skip i r e) l
+
+  -- what is not in the table has no name, and joined with it no resource changes its own
+  label-past : (n r : ℕ) → mostResources ≤ r → label c n r ≡ nothing
+  unfolding label
+  label-past n r h = List·getD-eq-default (namesAfter c n) nothing (omega (arith, after-length n))
+
+  pub joined-past : (n a b : ℕ) → mostResources ≤ max a b → joined (namesAfter c n) a b ≡ namesAfter c n
+  unfolding label
+  joined-past n a b h = map-same _ (namesAfter c n) nothing (λ r m.
+      let below : r < mostResources = omega (arith, after-length n) in
+      let past : nothing ≤ max (label c n a) (label c n b) =
+      ⊎-elim (λ g. omega (arith, label-past n b (omega arith))) (λ g. omega (arith, label-past n a (omega arith))) (ordered a b) in
+      merged-less (label c n a) (label c n b) (label c n r) (omega (arith, low n r below)))
+
   -- ---- chains
   trans : {n a b d : ℕ} → Chained c n a b → Chained c n b d → Chained c n a d
   trans alone q = q
@@ -94,13 +119,14 @@ module _ (c : SetUp) where
   wider m f (inward j p) = inward (among m j (f (j .pair) (j .below) (j .counts))) (wider m f p)
   wider m f (outward j p) = outward (among m j (f (j .pair) (j .below) (j .counts))) (wider m f p)
 
-  joining-iff : (i : ℕ) → (isJoining c i ≡ true) ↔ ((i < c .pairs) × (kind c (outerOf c i) ≡ kind c (innerOf c i)))
+  joining-iff : (i : ℕ) → (isJoining c i ≡ true)
+      ↔ ((i < c .pairs) × (((outerOf c i < c .resources) × (innerOf c i < c .resources)) × (kind c (outerOf c i) ≡ kind c (innerOf c i))))
   joining-iff i = (λ e. simp tests at e, λ z. simp tests z)
 
   newest : (i : ℕ) → isJoining c i ≡ true → Joins c (suc i) (outerOf c i) (innerOf c i)
   newest i e =
       let z = joining-iff i .0 e in
-      record { pair = i; counts = z .0; below = omega arith; outside = refl; inside = refl; alike = z .1 }
+      record { pair = i; counts = z .0; below = omega arith; outside = refl; inside = refl; alike = z .1 .1 }
 
   -- all of a chain are of one kind
   chain-kind : {n a b : ℕ} → Chained c n a b → kind c a ≡ kind c b
@@ -122,15 +148,6 @@ module _ (c : SetUp) where
     chained-fits h (inward j p) = chained-fits (ends j .1) p
     chained-fits h (outward j p) = chained-fits (ends j .0) p
 
-    -- no name is above its resource
-    low : (n r : ℕ) → r < mostResources → label c n r ≤ r
-    low zero r h = rw (label-none r h) (omega arith)
-    low (suc i) r h = go (isJoining c i) refl (low i r h)
-      where
-        go : (t : Bool) → isJoining c i ≡ t → label c i r ≤ r → label c (suc i) r ≤ r
-        go true e l = rw (label-join i r e h) (omega (arith, merged-low (label c i (outerOf c i)) (label c i (innerOf c i)) (label c i r)))
-        go false e l = rw (label-skip i r e) l
-
     -- a resource is chained to its name
     member : (n r : ℕ) → r < mostResources → Chained c n r (label c n r)
     member zero r h = rw (label-none r h) alone
@@ -139,7 +156,7 @@ module _ (c : SetUp) where
         go : (t : Bool) → isJoining c i ≡ t → ((q : ℕ) → q < mostResources → Chained c (suc i) q (label c i q)) → Chained c (suc i) r (label c (suc i) r)
         go true e ih =
             let j = newest i e in
-            let f = fits i (joining-iff i .0 e .0) in
+            let f = ends j in
             let out = ih (outerOf c i) (f .0) in
             let inn = ih (innerOf c i) (f .1) in
             rw (label-join i r e h)
@@ -162,8 +179,10 @@ module _ (c : SetUp) where
         last e =
             let out : outerOf c i ≡ a = ap (outerOf c) (sym e) ∙ j .outside in
             let inn : innerOf c i ≡ b = ap (innerOf c) (sym e) ∙ j .inside in
-            let t = joining-iff i .1 (rw e at (j .counts), ap (kind c) out ∙ j .alike ∙ sym (ap (kind c) inn)) in
-            let f = fits i (joining-iff i .0 t .0) in
+            let l = rw e at (j .counts) in
+            let z = good .inside i l in
+            let t = joining-iff i .1 (l, ((z .0, z .1), ap (kind c) out ∙ j .alike ∙ sym (ap (kind c) inn))) in
+            let f = fits i l in
             let x = label c i (outerOf c i) in
             let y = label c i (innerOf c i) in
             ap (label c (suc i)) (sym out) ∙ label-join i (outerOf c i) t (f .0) ∙ merged-left x y
@@ -205,5 +224,5 @@ module _ (c : SetUp) where
 
   -- what is not in the table is in no group
   pub group-past : (r : ℕ) → mostResources ≤ r → groupOf c r ≡ nothing
-  unfolding groupOf
-  group-past r h = List·getD-eq-default (names c) nothing (omega (arith, names-length))
+  unfolding groupOf names label
+  group-past r h = label-past mostPairs r h

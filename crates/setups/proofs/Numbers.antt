@@ -1,11 +1,11 @@
--- Each number of a set-up is given exactly when its row is the first that applies. Assumes nothing.
+-- Each number of a set-up is given exactly when its row is the first that applies, and 0 when none does. Assumes nothing.
 use Prim.Native.Nat.{ℕ}
 use mathlib.Core.Path.{_≡_, refl}
 use mathlib.Core.Bool.{true}
 use mathlib.Core.Logic.{_≢_, _↔_}
 use native.Mathlib.Omega.{arith}
 use Rattle.search.specs.Rows.{standsAt, FirstAt}
-use Rattle.search.proofs.Refusals.{number-iff}
+use Rattle.search.proofs.Refusals.{none-iff, number-iff}
 use Rattle.setups.specs.Refusals.{setUpRows, setUpRefusal}
 use Rattle.setups.specs.Numbers.{SetUpNumbers}
 use Rattle.input.specs.declared.SetUp.{SetUp}
@@ -15,8 +15,9 @@ unfolding setUpRefusal
 given-at c n i d m = number-iff (setUpRows c) n i d m
 
 pub set-up-numbers : (c : SetUp) → SetUpNumbers c
-unfolding setUpRows
+unfolding setUpRows setUpRefusal
 set-up-numbers c = record {
+  accepted = none-iff (setUpRows c) refl;
   count-outside = given-at c 1 0 (λ e. omega arith) refl;
   period-zero = given-at c 2 1 (λ e. omega arith) refl;
   kind-unknown = given-at c 3 2 (λ e. omega arith) refl;

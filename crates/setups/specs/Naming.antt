@@ -18,9 +18,13 @@ abbrev pub joined : List ℕ → ℕ → ℕ → List ℕ
 joined names a b = map (merged (getD names a nothing) (getD names b nothing)) names
 
 module _ (c : SetUp) where
-  -- pair i joins: it is of equal kinds
+  -- a and b are in the table, and of equal kinds
+  abbrev pub areAlike : ℕ → ℕ → Bool
+  areAlike a b = ltb a (c .resources) && ltb b (c .resources) && kind c a is kind c b
+
+  -- a pair of equal kinds puts both resources in one group; a pair that names a resource not in the table joins nothing
   abbrev pub isJoining : ℕ → Bool
-  isJoining i = ltb i (c .pairs) && kind c (outerOf c i) is kind c (innerOf c i)
+  isJoining i = ltb i (c .pairs) && areAlike (outerOf c i) (innerOf c i)
 
   -- the names after pair i, from those before it
   unfoldable pub joinedBy : List ℕ → ℕ → List ℕ

@@ -6,7 +6,7 @@ ghost use Prim.Native.Nat.{_<_};
 ghost use lib.ListN.{getD};
 ghost use Rattle.search.specs.Table.{table};
 ghost use Rattle.input.specs.Limits.{mostResources, mostPairs, nothing};
-ghost use Rattle.setups.specs.Naming.{merged, joined, isJoining, joinedBy, names};
+ghost use Rattle.setups.specs.Naming.{merged, joined, areAlike, isJoining, joinedBy, names};
 
 // No resource; the name of what is not in the table.
 const NOTHING: u8 = 255;
@@ -52,13 +52,19 @@ fn each_alone() -> [u8; SetUp::RESOURCES]
     names
 }
 
+// Resources `a` and `b` are in the table, and of equal kinds.
+fn are_alike(setup: SetUp, a: u8, b: u8) -> bool
+    ensures { λ r. ⌜ r ≡ areAlike setup a b ⌝ }
+{
+    let inside = ((a as usize) < setup.resources) & ((b as usize) < setup.resources);
+    inside & (kind_of(setup, a) == kind_of(setup, b))
+}
+
 fn is_joining(setup: SetUp, i: usize) -> bool
     requires { ⌜ i < mostPairs ⌝ }
     ensures { λ r. ⌜ r ≡ isJoining setup i ⌝ }
 {
-    let outer = kind_of(setup, setup.outer[i]);
-    let inner = kind_of(setup, setup.inner[i]);
-    (i < setup.pairs) & (outer == inner)
+    (i < setup.pairs) & are_alike(setup, setup.outer[i], setup.inner[i])
 }
 
 // The names after one pair more.

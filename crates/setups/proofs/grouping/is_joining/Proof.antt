@@ -3,27 +3,19 @@ use borrow.Author.Needs.{needs}
 use Rattle.setups.proofs.grouping.is_joining.Statement.{statement}
 use Rattle.setups.proofs.grouping.is_joining.Tie as tie
 
-element-copy-out-kind-of : tie.Need-element-copy-out-kind-of
-element-copy-out-kind-of c = search needs
+element-copy-out-are-alike : tie.Need-element-copy-out-are-alike
+element-copy-out-are-alike c = search needs
 
-kind-of-requires : tie.Need-kind-of-requires
-kind-of-requires c κs = search needs
+element-copy-out-are-alike-2 : tie.Need-element-copy-out-are-alike-2
+element-copy-out-are-alike-2 c = search needs
 
-element-copy-out-kind-of-2 : tie.Need-element-copy-out-kind-of-2
-element-copy-out-kind-of-2 c = search needs
-
-kind-of-requires-2 : tie.Need-kind-of-requires-2
-kind-of-requires-2 c κs = search needs
+are-alike-requires : tie.Need-are-alike-requires
+are-alike-requires c κs = search needs
 
 returns : tie.Need-returns
-returns c = rw (c .kind-of2 .ensures, c .before .before .kind-of .ensures)
+returns c = rw (c .are-alike .ensures)
 
 pub is-joining-spec : {M : Type 1} → statement M
 is-joining-spec =
     tie.close
-    (tie.spec
-    element-copy-out-kind-of
-    kind-of-requires
-    element-copy-out-kind-of-2
-    kind-of-requires-2
-    returns)
+    (tie.spec element-copy-out-are-alike element-copy-out-are-alike-2 are-alike-requires returns)
