@@ -6,7 +6,8 @@ use mathlib.Core.Logic.{_≢_}
 use native.Mathlib.Omega.{arith}
 use lib.ListN.{length}
 use borrow.Author.Tests.{ne-eqb}
-use Rattle.search.specs.Rows.{firstOf, NoneApplies}
+use Rattle.search.specs.Rows.{firstOf}
+use Rattle.search.specs.Numbered.{NoneApplies}
 use Rattle.search.proofs.Tests.{tests}
 use Rattle.search.proofs.Refusals.{none-iff}
 use Rattle.input.specs.Layout.{eventSize, eventCount}

@@ -9,7 +9,8 @@ use native.Mathlib.Decide.{ℕ-discrete}
 use lib.ListN.{length, drop, length-drop}
 use lib.Seq.{length-take-le}
 use borrow.Author.Tests.{ne-eqb}
-use Rattle.search.specs.Rows.{firstOf, standsAt, FirstAt, NoneApplies}
+use Rattle.search.specs.Rows.{firstOf}
+use Rattle.search.specs.Numbered.{standsAt, FirstAt, NoneApplies}
 use Rattle.search.proofs.Tests.{tests}
 use Rattle.search.proofs.Refusals.{Given, given-iff, none-iff, number-iff}
 use Rattle.blocks.specs.Sizes.{payloadAt, payloadSize}

@@ -96,7 +96,7 @@ set-bytes block place value all small i = elim (ℕ-discrete i place) [
 
 pub one-byte-refused : OneByteIsRefused
 unfolding blockRows
-one-byte-refused block place value index all small long checked inside other =
+one-byte-refused block place value index all long checked inside small other =
     let next = set block place value in
     let l : place < length block = omega arith in
     let changed : OneChanged block next = record {

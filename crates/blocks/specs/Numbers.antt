@@ -1,9 +1,10 @@
--- Document 01, 'Numbers handed back': each number of a block is given exactly when its row is the first that applies, and 0 when none does.
+-- Document 01, 'Numbers handed back': each number of a block is given exactly when its row is the first that applies, and
+-- 0 when none does.
 use Prim.Native.Nat.{ℕ}
 use mathlib.Core.Path.{_≡_}
 use mathlib.Core.List.{List}
 use mathlib.Core.Logic.{_↔_}
-use Rattle.search.specs.Rows.{FirstAt, NoneApplies}
+use Rattle.search.specs.Numbered.{FirstAt, NoneApplies}
 use Rattle.blocks.specs.Verdicts.{blockRows, verdict, numberOf}
 
 pub record BlockNumbers (block : List ℕ) (index : ℕ) : Type 0 where

@@ -23,10 +23,12 @@ pub record OneChanged (a b : List ℕ) : Type 0 where
 
 -- of two such blocks not both are accepted, at whatever indices
 abbrev pub OneByteIsCaught : Type 0
-OneByteIsCaught = (a b : List ℕ) → AreBytes a → AreBytes b → OneChanged a b → (k l m n : ℕ) → verdict a k ≡ Used m → verdict b l ≡ Used n → ⊥
+OneByteIsCaught = (a b : List ℕ) → AreBytes a → AreBytes b → OneChanged a b
+    → (k l m n : ℕ) → verdict a k ≡ Used m → verdict b l ≡ Used n → ⊥
 
--- of the check itself: a block of 512 bytes whose check is right, with one of the first 508 bytes changed, is refused with 31, at
--- whatever index
+-- of the check itself: a block of 512 bytes whose check is right, with one of the first 508 bytes changed, is refused with
+-- 31, at whatever index
 abbrev pub OneByteIsRefused : Type 0
-OneByteIsRefused = (block : List ℕ) (place value index : ℕ) → AreBytes block → value < 256 → length block ≡ blockSize → isChecked block ≡ true
-    → place < checkAt → value ≢ byte block place → numberOf (verdict (set block place value) index) ≡ 31
+OneByteIsRefused = (block : List ℕ) (place value index : ℕ) → AreBytes block → length block ≡ blockSize
+    → isChecked block ≡ true → place < checkAt → value < 256 → value ≢ byte block place
+    → numberOf (verdict (set block place value) index) ≡ 31

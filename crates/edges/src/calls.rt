@@ -7,7 +7,7 @@ use lines::Line;
 use protocol::State;
 use protocol::Task;
 ghost use Prim.Native.Nat.{_<_, _≤_};
-ghost use Rattle.texts.specs.Lines.{lineLimit};
+ghost use Rattle.texts.specs.Buffers.{lineLimit};
 
 // A buffer that is long enough for a line, and one that is not.
 const ENOUGH: usize = Line::LIMIT;

@@ -8,7 +8,8 @@ use Rattle.protocol.specs.Words.{task}
 use Rattle.protocol.specs.Sound.{sound}
 use Rattle.protocol.specs.declared.State.{State}
 use Rattle.states.specs.Writing.{lineOf}
-use Rattle.texts.specs.Lines.{firstText, eventText, taskLineText, lineInto, narrow}
+use Rattle.texts.specs.Lines.{firstText, taskLineText}
+use Rattle.texts.specs.Buffers.{eventText, lineInto, narrow}
 use Rattle.texts.specs.declared.Line.{Line}
 
 -- the state is not sound, and then what else refuses the line

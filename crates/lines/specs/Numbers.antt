@@ -1,19 +1,21 @@
--- Document 01, 'Printing': each number of a line is given exactly when its row is the first that applies, and 0 when none does.
+-- Document 01, 'Printing': each number of a line is given exactly when its row is the first that applies, and 0 when none
+-- does.
 use Prim.Native.Nat.{ℕ, _<_}
 use mathlib.Core.Path.{_≡_}
 use mathlib.Core.List.{List}
 use mathlib.Core.Logic.{_↔_}
 use lib.ListN.{length}
-use Rattle.search.specs.Rows.{FirstAt, NoneApplies}
+use Rattle.search.specs.Numbered.{FirstAt, NoneApplies}
 use Rattle.protocol.specs.declared.State.{State}
-use Rattle.texts.specs.Lines.{lineLimit, lineInto, narrow}
+use Rattle.texts.specs.Buffers.{lineLimit, lineInto, narrow}
 use Rattle.lines.specs.Lines.{stateRows, taskRows, firstLine, eventLine, taskLine}
 
 pub record LineNumbers (s : State) (out : List ℕ) : Type 0 where
   pub first-accepted : (firstLine out s .0 .number ≡ 0) ↔ NoneApplies (stateRows s out)
   pub first-unsound : (firstLine out s .0 .number ≡ 9) ↔ FirstAt (stateRows s out) 0
   pub first-narrow : (firstLine out s .0 .number ≡ 36) ↔ FirstAt (stateRows s out) 1
-  pub event-accepted : (number answer : ℕ) → (eventLine out s number answer .0 .number ≡ 0) ↔ NoneApplies (stateRows s out)
+  pub event-accepted : (number answer : ℕ)
+      → (eventLine out s number answer .0 .number ≡ 0) ↔ NoneApplies (stateRows s out)
   pub event-unsound : (number answer : ℕ) → (eventLine out s number answer .0 .number ≡ 9) ↔ FirstAt (stateRows s out) 0
   pub event-narrow : (number answer : ℕ) → (eventLine out s number answer .0 .number ≡ 36) ↔ FirstAt (stateRows s out) 1
   pub task-accepted : (t : ℕ) → (taskLine out s t .0 .number ≡ 0) ↔ NoneApplies (taskRows s t out)

@@ -6,7 +6,8 @@ use native.Mathlib.Omega.{arith}
 use borrow.Author.Tests.{eq-eqb, ne-eqb}
 use native.Mathlib.Decide.{ℕ-discrete, decLt}
 use Rattle.search.proofs.Tests.{tests}
-use Rattle.search.proofs.Refusals.{none-iff, NoneApplies}
+use Rattle.search.specs.Numbered.{NoneApplies}
+use Rattle.search.proofs.Refusals.{none-iff}
 use Rattle.input.specs.Limits.{mostTasks, mostResources}
 use Rattle.setups.specs.Naming.{names, groupOf}
 use Rattle.input.specs.Kinds.{request as asking, completion, passing, fieldsOf}

@@ -10,7 +10,7 @@ use lib.Dec.{ltb}
 use lib.ListN.{length}
 use borrow.Author.Tests.{ltb-true, eqb-false, eq-eqb, ne-eqb}
 use Rattle.search.specs.Words.{if_then_else_, _is_}
-use Rattle.search.specs.Rows.{NoneApplies}
+use Rattle.search.specs.Numbered.{NoneApplies}
 use Rattle.search.proofs.Tests.{tests}
 use Rattle.search.proofs.Refusals.{none-iff}
 use Rattle.processors.specs.Limits.{processors}

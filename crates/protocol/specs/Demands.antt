@@ -1,5 +1,6 @@
--- Demand 3 and the totals, as statements about a state, an event or a list of events; and, at the end, the theorems: that they hold
--- of every run from an accepted set-up, `after`. `proofs/Theorems` proves them; nothing else need be read to know what is promised.
+-- Demand 3 and the totals, as statements about a state, an event or a list of events; and, at the end, the theorems: that
+-- they hold of every run from an accepted set-up, `after`. `proofs/Theorems` proves them; nothing else need be read to know
+-- what is promised.
 use Prim.Native.Nat.{ℕ, zero, suc, _+_, _-_, _<_, _≤_, min}
 use mathlib.Core.Path.{_≡_}
 use mathlib.Core.Bool.{Bool, true, false, not, _&&_, _||_}
@@ -30,8 +31,8 @@ use Rattle.protocol.specs.Events.{Prefers, Move, moved, stepBy, runBy, s
 use Rattle.protocol.specs.declared.State.{State}
 use Rattle.protocol.specs.declared.Reply.{Reply}
 
--- ---- every run: an accepted set-up, and any events, refused ones among them, each with any suggestion of a processor where
--- someone arrives or resumes. (A start has four bytes.)
+-- ---- every run: an accepted set-up, and any events, refused ones among them, each with any suggestion of a processor
+-- where someone arrives or resumes. (A start has four bytes.)
 pub record Given (c : SetUp) : Type 0 where
   pub accepted : setUpRefusal c ≡ 0
   pub start : c .start ≤ lastClock
@@ -73,14 +74,16 @@ pub record LinksHighest (s : State) (m : ℕ) : Type 0 where
   pub once : (k i : ℕ) → link (s .processors) k ≢ nobody → link (s .processors) k ≡ link (s .processors) i → k ≡ i
   pub many : howMany (λ k. link (s .processors) k isn't nobody) processors ≡ min m (howMany (isRunnable s) mostTasks)
 
--- what the sound state asks of links and placements: what is settled of them, clause by clause, and linked jobs as this says
+-- what the sound state asks of links and placements: what is settled of them, clause by clause, and linked jobs as above
 abbrev pub PlacedAsDemanded : Type 0
 PlacedAsDemanded = (s : State) → Sized (s .processors) → s .processors .count ≡ s .setup .processors
-    → (isPlaced (s .processors) (jobs (s .setup) s) ≡ true) ↔ (Settled (s .processors) (jobs (s .setup) s) × LinksHighest s (s .setup .processors))
+    → (isPlaced (s .processors) (jobs (s .setup) s) ≡ true)
+    ↔ (Settled (s .processors) (jobs (s .setup) s) × LinksHighest s (s .setup .processors))
 
 -- ---- locks: two tasks that have a request open in one group are one task, the group's holder
 abbrev pub OneHolder : State → Type 0
-OneHolder s = (t u i k : ℕ) → i < depth s t → k < depth s u → groupOf (s .setup) (request s t i) ≡ groupOf (s .setup) (request s u k)
+OneHolder s = (t u i k : ℕ) → i < depth s t → k < depth s u
+    → groupOf (s .setup) (request s t i) ≡ groupOf (s .setup) (request s u k)
     → (t ≡ u) × (holder s (groupOf (s .setup) (request s t i)) ≡ t)
 
 -- ---- chains of who waits for whom
@@ -108,27 +111,30 @@ OnePlace s = (g t n k : ℕ) → kind (s .setup) g ≡ short → t ≢ nobody �
 -- e is accepted and completes an outermost request at g
 unfoldable pub handsOver : State → Event → ℕ → Bool
 handsOver s e g =
-    accepts s e completion && groupOf (s .setup) (e .resource) is g && not (openOfKind (s .setup) (closes (e .task) s) (e .task) (e .resource))
+    accepts s e completion && groupOf (s .setup) (e .resource) is g
+    && not (openOfKind (s .setup) (closes (e .task) s) (e .task) (e .resource))
 
 -- how many of the events do so
 unfoldable pub completions : State → List Move → ℕ → ℕ
 completions s [] g = 0
 completions s (m ∷ ms) g = (if handsOver s (m .event) g then 1 else 0) + completions (moved s m) ms g
 
--- e asks, in s, for a short resource while no short request is open, and is accepted: it finds `found` jobs before it, fewer than
--- m; and after any further events, as many completions of outermost requests there as there were leave n of the `found` before it:
--- it holds where n is 0, so after exactly `found` completions, and until then waits for what it asked
+-- e asks, in s, for a short resource while no short request is open, and is accepted: it finds `found` jobs before it, fewer
+-- than m; and after any further events, as many completions of outermost requests there as there were leave n of the `found`
+-- before it: it holds where n is 0, so after exactly `found` completions, and until then waits for what it asked
 pub record ShortQueue (s : State) (pick : Prefers) (e : Event) (m : ℕ) : Type 0 where
   pub found : ℕ
   pub few : found < m
-  pub later : (ms : List Move) (n : ℕ) → completions (stepBy pick s e .state) ms (groupOf (s .setup) (e .resource)) + n ≡ found
+  pub later : (ms : List Move) (n : ℕ)
+      → completions (stepBy pick s e .state) ms (groupOf (s .setup) (e .resource)) + n ≡ found
       → let end = runBy (stepBy pick s e .state) ms in
-      Before end (groupOf (s .setup) (e .resource)) (e .task) n × (n ≢ 0 → (stand end (e .task) ≡ spinning) × (asked end (e .task) ≡ e .resource))
+      Before end (groupOf (s .setup) (e .resource)) (e .task) n
+      × (n ≢ 0 → (stand end (e .task) ≡ spinning) × (asked end (e .task) ≡ e .resource))
 
 -- of every request, accepted in s, for a short resource by a job with no short request open
 abbrev pub ShortQueues : State → ℕ → Type 0
-ShortQueues s m = (pick : Prefers) (e : Event) → judge s e ≡ 0 → e .kind ≡ asking → kind (s .setup) (e .resource) ≡ short
-    → shortOpen (s .setup) s (e .task) ≡ false → ShortQueue s pick e m
+ShortQueues s m = (pick : Prefers) (e : Event) → judge s e ≡ 0 → e .kind ≡ asking
+    → kind (s .setup) (e .resource) ≡ short → shortOpen (s .setup) s (e .task) ≡ false → ShortQueue s pick e m
 
 -- ---- demand 3, of the state after some events
 pub record Demand3 (c : SetUp) (ms : List Move) : Type 0 where
@@ -140,8 +146,8 @@ pub record Demand3 (c : SetUp) (ms : List Move) : Type 0 where
   pub queues : ShortQueues (after c ms) (c .processors)
 
 -- ---- totals
--- the ticks that t has been pending, from its accepted arrivals and finishes and their clocks: since the clock `since`, if it is
--- pending at the start
+-- the ticks that t has been pending, from its accepted arrivals and finishes and their clocks: since the clock `since`, if
+-- it is pending at the start
 unfoldable pub pendingTicks : State → List Move → ℕ → Bool → ℕ → ℕ
 pendingTicks s [] t pending since = if pending then s .clock - since else 0
 pendingTicks s (m ∷ ms) t pending since =
@@ -154,8 +160,10 @@ pendingTicks s (m ∷ ms) t pending since =
 -- an accepted step's ticks go, for a pending task, to the one total of its situation before the event; else nowhere
 abbrev pub Charges : State → Prefers → Event → ℕ → Type 0
 Charges s pick e t =
+    let before = task s t .totals in
+    let i = totalOf (situation s t) in
     task (stepBy pick s e .state) t .totals
-    ≡ (if stand s t isn't absent then set (task s t .totals) (totalOf (situation s t)) (getD (task s t .totals) (totalOf (situation s t)) 0 + stepOf s e) else task s t .totals)
+    ≡ (if stand s t isn't absent then set before i (getD before i 0 + stepOf s e) else before)
 
 -- ---- the theorems: each of the above, of every run from an accepted set-up
 abbrev pub Always : (SetUp → List Move → Type 0) → Type 0
@@ -168,7 +176,8 @@ abbrev pub AlwaysDemand3 : Type 0
 AlwaysDemand3 = Always Demand3
 
 abbrev pub AlwaysCharges : Type 0
-AlwaysCharges = Always (λ c ms. (pick : Prefers) (e : Event) (t : ℕ) → judge (after c ms) e ≡ 0 → t < mostTasks → Charges (after c ms) pick e t)
+AlwaysCharges = Always (λ c ms. (pick : Prefers) (e : Event) (t : ℕ) → judge (after c ms) e ≡ 0 → t < mostTasks
+    → Charges (after c ms) pick e t)
 
 -- the five totals sum to the ticks pending; nobody is pending at the start
 abbrev pub AlwaysSums : Type 0
@@ -176,10 +185,11 @@ AlwaysSums = Always (λ c ms. (t : ℕ) → sum (task (after c ms) t .totals) �
 
 -- a refused event can be left out
 abbrev pub RefusedLeftOut : Type 0
-RefusedLeftOut = Always (λ c ms. (m : Move) (ns : List Move) → judge (after c ms) (m .event) ≢ 0 → after c (ms ++ m ∷ ns) ≡ after c (ms ++ ns))
+RefusedLeftOut = Always (λ c ms. (m : Move) (ns : List Move) → judge (after c ms) (m .event) ≢ 0
+    → after c (ms ++ m ∷ ns) ≡ after c (ms ++ ns))
 
--- ---- a refused event hands back the very state, whatever is suggested; and a refused set-up an empty one: no processors, no task, no
--- lock, clock 0
+-- ---- a refused event hands back the very state, whatever is suggested; and a refused set-up an empty one: no processors, no
+-- task, no lock, clock 0
 abbrev pub RefusedKeeps : Type 0
 RefusedKeeps = (pick : Prefers) (s : State) (e : Event) → stepBy pick s e .answer ≢ 0 → stepBy pick s e .state ≡ s
 

@@ -46,8 +46,8 @@ module _ (c : SetUp) (t : ℕ) where
   unfoldable pub finishEvent : State → State
   finishEvent s = leaves c t (finishEdit t s)
 
-  -- Request. Same kind open, or the group free: granted at once. Otherwise a short request spins at the queue's end, and a
-  -- long one joins the queue, which raises the holder's priority, then suspends.
+  -- Request. Same kind open, or the group free: granted at once. Otherwise a short request spins at the queue's end, and
+  -- a long one joins the queue, which raises the holder's priority, then suspends.
   unfoldable pub requestEvent : ℕ → State → State
   requestEvent r s =
       let g = groupOf c r in
@@ -71,7 +71,8 @@ unfoldable pub charged : ℕ → State → State
 charged n s = record {
   setup = s .setup;
   clock = s .clock + n;
-  tasks = table (λ t. if stand s t isn't absent then counting (totalOf (situation s t)) n (task s t) else task s t) mostTasks;
+  tasks = table
+      (λ t. if stand s t isn't absent then counting (totalOf (situation s t)) n (task s t) else task s t) mostTasks;
   groups = s .groups;
   processors = s .processors;
 }
@@ -93,8 +94,8 @@ module _ (pick : Prefers) where
   arriveEvent c t s = arrives c t (arriveEdit c t s)
 
   -- Completion. Inner: the request is closed, no more. Outermost short: the queue's first job becomes holder, then the
-  -- completer becomes preemptable. Outermost long: the completer's priority is restored, as the group is free, and it gives
-  -- way; then the queue's first job becomes holder and resumes.
+  -- completer becomes preemptable. Outermost long: the completer's priority is restored, as the group is free, and it
+  -- gives way; then the queue's first job becomes holder and resumes.
   unfoldable pub completeEvent : SetUp → ℕ → ℕ → State → State
   completeEvent c t r s =
       let g = groupOf c r in
@@ -157,7 +158,13 @@ noSetUp = record {
 }
 
 unfoldable pub fresh : SetUp → State
-fresh c = record { setup = c; clock = c .start; tasks = replicate mostTasks noTask; groups = replicate mostResources noGroup; processors = noneLinked (c .processors) }
+fresh c = record {
+  setup = c;
+  clock = c .start;
+  tasks = replicate mostTasks noTask;
+  groups = replicate mostResources noGroup;
+  processors = noneLinked (c .processors);
+}
 
 unfoldable pub begin : SetUp → Reply
 begin c =

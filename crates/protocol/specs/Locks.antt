@@ -17,7 +17,7 @@ use Rattle.protocol.specs.declared.Standing.the-variants.{Absent, Active
 use Rattle.protocol.specs.declared.Task.{Task}
 use Rattle.protocol.specs.declared.State.{State}
 
--- ---- a task with another standing, and other open requests; so with one request more, and with its newest request closed
+-- ---- a task with another standing and other open requests; so with one request more, and with its newest one closed
 abbrev pub withRequests : Standing → List ℕ → ℕ → Task → Task
 withRequests standing requests depth t = record {
   standing = standing;
@@ -38,7 +38,8 @@ opening r t = withRequests (t .standing) (set (t .requests) (t .depth) r) (t .de
 abbrev pub closing : Task → Task
 closing t = withRequests (t .standing) (set (t .requests) (t .depth - 1) nobody) (t .depth - 1) t
 
--- with another standing, and other times; so a job arrives at the clock `now`, with a deadline, and a job is gone with its deadline
+-- with another standing and other times; so a job arrives at the clock `now`, with a deadline, and a job is gone with its
+-- deadline
 abbrev pub timedAs : Standing → ℕ → Bool → ℕ → Task → Task
 timedAs standing due arrived last t = record {
   standing = standing;
@@ -90,7 +91,8 @@ opens t r g s = withGroup g t (group s g .queue) (onTask t (opening r) s)
 -- t waits for r, at the end of g's queue
 unfoldable pub queues : SetUp → ℕ → ℕ → ℕ → State → State
 queues c t r g s =
-    withGroup g (group s g .holder) (appended (group s g .queue) t) (onTask t (standingAs (Waiting (lockOf (kind c r) r))) s)
+    withGroup g (group s g .holder) (appended (group s g .queue) t)
+    (onTask t (standingAs (Waiting (lockOf (kind c r) r))) s)
 
 -- t's newest request is closed
 unfoldable pub closes : ℕ → State → State
@@ -106,7 +108,8 @@ nextAt s g = waiter s g 0
 
 -- the next of g waits no more
 unfoldable pub calls : ℕ → State → State
-calls g s = withGroup g (group s g .holder) (withoutFirst (group s g .queue)) (onTask (nextAt s g) (standingAs Active) s)
+calls g s =
+    withGroup g (group s g .holder) (withoutFirst (group s g .queue)) (onTask (nextAt s g) (standingAs Active) s)
 
 -- the next of g becomes holder, and what it asked for is open
 unfoldable pub passes : ℕ → State → State

@@ -47,16 +47,18 @@ Unlinked p t = (k : ℕ) → link p k ≢ t
 pub record Placed (p : Processors) (j : Jobs) : Type 0 where
   pub settled : Settled p j
   -- where a runnable job is unlinked, every processor has a link of higher priority
-  pub highest : (k t : ℕ) → k < p .count → Runnable j t → Unlinked p t → (link p k ≢ nobody) × (rankOf j (link p k) < rankOf j t)
+  pub highest : (k t : ℕ) → k < p .count → Runnable j t → Unlinked p t
+      → (link p k ≢ nobody) × (rankOf j (link p k) < rankOf j t)
 
--- the same by counting: linked are the runnable jobs with fewer than `count` runnable jobs of higher priority, as many as there are
--- processors or runnable jobs, if fewer
+-- the same by counting: linked are the runnable jobs with fewer than `count` runnable jobs of higher priority, as many as
+-- there are processors or runnable jobs, if fewer
 pub record Counted (p : Processors) (j : Jobs) : Type 0 where
-  pub highest : (t : ℕ) → t < tasks → ((k : ℕ) × (link p k ≡ t)) ↔ (Runnable j t × (howMany (isAhead j t) tasks < p .count))
+  pub highest : (t : ℕ) → t < tasks
+      → ((k : ℕ) × (link p k ≡ t)) ↔ (Runnable j t × (howMany (isAhead j t) tasks < p .count))
   pub many : howMany (λ k. link p k isn't nobody) processors ≡ min (p .count) (howMany (isRunnable j) tasks)
 
--- What is owed, by this scheduler or another, to those above it: who runs is runnable, and every non-preemptable job runs, on one of
--- the processors that there are.
+-- what is owed, by this scheduler or another, to those above it: who runs is runnable, and every non-preemptable job runs, on
+-- one of the processors that there are
 pub record Served (p : Processors) (j : Jobs) : Type 0 where
   pub runnable : (t : ℕ) → t < tasks → runOf p t < processors → Runnable j t
   pub hard : (t : ℕ) → t < tasks → modeOf j t ≡ nonPreemptable → (runOf p t < p .count) × (runs p (runOf p t) ≡ t)

@@ -112,7 +112,8 @@ fn take(p: Processors, k: usize) -> usize
     if is_free(p, k) { k } else { lowest_free(p) }
 }
 
-// The job of `t` arrives or resumes, and `jobs` has it so: on processor `k` if it is unlinked. `Processors::NOBODY` suggests none.
+// The job of `t` arrives or resumes, and `jobs` has it so: on processor `k` if it is unlinked, else on the lowest-numbered
+// that is. `Processors::NOBODY` suggests none.
 pub fn arrive(p: Processors, jobs: Jobs, t: u8, k: u8) -> Processors
     ensures { λ r. ⌜ r ≡ arriving p jobs t k ⌝ }
 {

@@ -9,8 +9,8 @@ use mathlib.Core.Logic.{_≢_, _↔_}
 use lib.ListN.{length, getD}
 use borrow.Author.Tests.{eqb-true, eqb-false, not-true}
 use Rattle.search.specs.Words.{if_then_else_, _is_, _isn't_}
-use Rattle.search.specs.Rows.{Row, noRow, firstOf, isNumbered, isMissing, standsAt, FirstAt}
-pub use Rattle.search.specs.Rows.{NoneApplies}
+use Rattle.search.specs.Rows.{Row, firstOf}
+use Rattle.search.specs.Numbered.{noRow, isNumbered, isMissing, standsAt, FirstAt, NoneApplies}
 use Rattle.search.proofs.Tests.{never, and-left, and-right}
 
 -- row i is numbered n and applies, and no earlier row does

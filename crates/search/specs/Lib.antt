@@ -3,4 +3,5 @@ pub mod Below
 pub mod First
 pub mod Best
 pub mod Rows
+pub mod Numbered
 pub mod Table

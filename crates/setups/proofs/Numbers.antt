@@ -4,7 +4,7 @@ use mathlib.Core.Path.{_≡_, refl}
 use mathlib.Core.Bool.{true}
 use mathlib.Core.Logic.{_≢_, _↔_}
 use native.Mathlib.Omega.{arith}
-use Rattle.search.specs.Rows.{standsAt, FirstAt}
+use Rattle.search.specs.Numbered.{standsAt, FirstAt}
 use Rattle.search.proofs.Refusals.{none-iff, number-iff}
 use Rattle.setups.specs.Refusals.{setUpRows, setUpRefusal}
 use Rattle.setups.specs.Numbers.{SetUpNumbers}

@@ -1,7 +1,8 @@
--- Document 01, 'Numbers handed back': each number of a set-up is given exactly when its row is the first that applies, and 0 when none does.
+-- Document 01, 'Numbers handed back': each number of a set-up is given exactly when its row is the first that applies, and
+-- 0 when none does.
 use mathlib.Core.Path.{_≡_}
 use mathlib.Core.Logic.{_↔_}
-use Rattle.search.specs.Rows.{FirstAt, NoneApplies}
+use Rattle.search.specs.Numbered.{FirstAt, NoneApplies}
 use Rattle.setups.specs.Refusals.{setUpRows, setUpRefusal}
 use Rattle.input.specs.declared.SetUp.{SetUp}
 

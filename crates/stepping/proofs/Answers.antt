@@ -21,7 +21,8 @@ use Rattle.protocol.proofs.Step.{run-join}
 use Rattle.locking.specs.Playing.{replyTo, told}
 use Rattle.locking.proofs.Runs.{played-told}
 use Rattle.texts.specs.Texts.{eachText}
-use Rattle.texts.specs.Lines.{placeText, eventText}
+use Rattle.texts.specs.Lines.{placeText}
+use Rattle.texts.specs.Buffers.{eventText}
 use Rattle.stepping.specs.Pages.{wide, eventsText}
 use Rattle.stepping.specs.Files.{answerText, answersText}
 use Rattle.stepping.proofs.Records.{each-same}

@@ -211,8 +211,8 @@ module _ (bytes : List ℕ) (all : AreBytes bytes) where
   read-first : (n : ℕ) → Read (take n (blocksOf bytes))
   read-first n = record {
     some = λ i l.
-    let long = length-take n (blocksOf bytes) in
-    rw (getD-take n (blocksOf bytes) i [] (omega (arith, long))) (block-some i (omega (arith, long)));
+        let long = length-take n (blocksOf bytes) in
+        rw (getD-take n (blocksOf bytes) i [] (omega (arith, long))) (block-some i (omega (arith, long)));
     bytes = λ i. elim (decLt i n) [
       | yes l ↦ subst AreBytes (sym (getD-take n (blocksOf bytes) i [] l)) (block-bytes i)
       | no l ↦ subst AreBytes (sym (List·getD-eq-default (take n (blocksOf bytes)) [] {n = i} (omega (arith, length-take n (blocksOf bytes))))) none-bytes

@@ -8,8 +8,8 @@ use lib.ListN.{length, set, take, drop, length-drop, drop-of-length-le}
 use lib.Seq.{length-take-le, take-all, take-set-le, drop-set-add, take-append-seam, drop-at, drop-drop, sets, sets-eq}
 use borrow.Author.Tests.{le-ltb}
 use Rattle.states.specs.Writing.{written}
-use Rattle.texts.specs.Texts.{Put}
-use Rattle.texts.specs.Lines.{lineLimit, lineInto, narrow}
+use Rattle.texts.specs.Buffers.{Put}
+use Rattle.texts.specs.Buffers.{lineLimit, lineInto, narrow}
 use Rattle.texts.specs.declared.Line.{Line}
 
 -- ---- a text written into a buffer

@@ -13,8 +13,8 @@ use Rattle.locking.specs.declared.Played.{Played}
 use Rattle.locking.specs.Playing.{playable, playedTo, writtenTo, played}
 use Rattle.states.proofs.Writing.{written-long}
 use Rattle.blocks.specs.Sizes.{mostEvents}
-use Rattle.texts.specs.Texts.{Put}
-use Rattle.texts.specs.Lines.{lineLimit, lineInto, narrow}
+use Rattle.texts.specs.Buffers.{Put}
+use Rattle.texts.specs.Buffers.{lineLimit, lineInto, narrow}
 use Rattle.texts.specs.declared.Line.{Line}
 use Rattle.stepping.specs.Pages.{wide, eventsText, eventPage, pageLimit, paged, pageInto}
 use Rattle.stepping.specs.declared.Session.{Session}

@@ -1,5 +1,5 @@
--- The program over a whole file, and the theorems about it: what it prints is what document 01 says, and demand 3 holds at every
--- line. `proofs/Files` proves them.
+-- The program over a whole file, and the theorems about it: what it prints is what document 01 says, and demand 3 holds at
+-- every line. `proofs/Files` proves them.
 use Prim.Native.Nat.{ℕ, suc, _<_}
 use mathlib.Core.Path.{_≡_}
 use mathlib.Core.List.{List, [], _∷_, _++_}
@@ -55,7 +55,8 @@ pub record IsARun (blocks : List (List ℕ)) : Type 0 where
       ++ answersText 0 (setUpOf blocks .processors) (begin (setUpOf blocks) .state) (eventsOf blocks)
       ++ tasksText (stateOf blocks) (setUpOf blocks .tasks)
   -- the state after block n: that of its set-up, which stays, and of the events of the blocks up to it
-  pub states : (n : ℕ) → n < length blocks → fileState (take (suc n) blocks) ≡ after (setUpOf blocks) (plain (eventsOf (take (suc n) blocks)))
+  pub states : (n : ℕ) → n < length blocks
+      → fileState (take (suc n) blocks) ≡ after (setUpOf blocks) (plain (eventsOf (take (suc n) blocks)))
 
 abbrev pub AcceptedIsARun : Type 0
 AcceptedIsARun = (blocks : List (List ℕ)) → Accepted blocks → IsARun blocks

@@ -8,8 +8,9 @@ ghost use Prim.Native.Nat.{_+_, _*_, _≤_, min};
 ghost use lib.ListN.{length, take, drop};
 ghost use Rattle.input.specs.Limits.{mostTasks};
 ghost use Rattle.states.specs.Writing.{lineSize};
-ghost use Rattle.texts.specs.Texts.{Put};
-ghost use Rattle.texts.specs.Lines.{eventText, taskLineText, lineLimit};
+ghost use Rattle.texts.specs.Buffers.{Put};
+ghost use Rattle.texts.specs.Lines.{taskLineText};
+ghost use Rattle.texts.specs.Buffers.{eventText, lineLimit};
 ghost use Rattle.stepping.specs.Files.{tasksText};
 ghost use Rattle.stepping.specs.Pages.{eventsText};
 

@@ -14,7 +14,8 @@ use Rattle.input.specs.Limits.{nothing}
 use Rattle.protocol.specs.Words.{totalCount}
 use Rattle.texts.proofs.Laws.{task-none, task-some, place-long}
 use Rattle.texts.specs.Texts.{digit, digits, decimal, mostDigits, numbered, eachText}
-use Rattle.texts.specs.Lines.{firstText, taskText, placeText, placesText, eventText, totalsText, taskLineText, blockText, setUpText, placeWidth, totalWidth, lineLimit, lineInto}
+use Rattle.texts.specs.Lines.{firstText, taskText, placeText, totalsText, taskLineText, blockText, setUpText}
+use Rattle.texts.specs.Buffers.{placesText, eventText, placeWidth, totalWidth, lineLimit, lineInto}
 
 -- ---- numbers: no more digits than a power of ten has zeros, above the number
 digits-short : (k n j : ℕ) → n < 10 ^ suc j → length (digits k n) ≤ suc j

@@ -1,13 +1,10 @@
--- Texts as bytes: quoted ones by the codes of their characters, and numbers by their decimal digits; and a text put into a buffer.
+-- Texts as bytes: quoted ones by the codes of their characters, and numbers by their decimal digits.
 use Prim.Native.Nat.{ℕ, zero, suc, _+_, _/_, _%_}
 use Prim.Native.Char.{code}
 use Prim.Native.String.{String, [] as none, _∷_ as _then_}
-use mathlib.Core.Path.{_≡_}
 use mathlib.Core.List.{List, [], _∷_, _++_}
 use lib.Dec.{ltb}
-use lib.ListN.{length}
 use Rattle.search.specs.Words.{if_then_else_}
-use Rattle.states.specs.Writing.{written}
 
 abbrev pub codes : String → List ℕ
 codes none = []
@@ -37,8 +34,3 @@ numbered word n = codes word ++ decimal n
 unfoldable pub eachText : (ℕ → List ℕ) → ℕ → List ℕ
 eachText text zero = []
 eachText text (suc k) = eachText text k ++ text k
-
--- a text put into a buffer from a place on: the place behind it, and the buffer after
-pub record Put (before : List ℕ) (at : ℕ) (text : List ℕ) (behind : ℕ) (after : List ℕ) : Type 0 where
-  pub place : behind ≡ at + length text
-  pub bytes : after ≡ written before at text

@@ -11,8 +11,9 @@ ghost use Prim.Native.Nat.{_+_, _*_, _≤_, min};
 ghost use lib.ListN.{length};
 ghost use Rattle.processors.specs.Limits.{processors};
 ghost use Rattle.protocol.specs.Words.{totalCount};
-ghost use Rattle.texts.specs.Texts.{Put};
-ghost use Rattle.texts.specs.Lines.{placeText, placesText, totalsText, placeWidth, totalWidth, countsLine, placesLine, totalsLine, blockLine, setUpLine};
+ghost use Rattle.texts.specs.Buffers.{Put};
+ghost use Rattle.texts.specs.Lines.{placeText, totalsText};
+ghost use Rattle.texts.specs.Buffers.{placesText, placeWidth, totalWidth, countsLine, placesLine, totalsLine, blockLine, setUpLine};
 
 // What is given back in place of a line.
 pub fn refused(number: u8) -> Line

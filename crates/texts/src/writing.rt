@@ -2,7 +2,8 @@
 ghost use Prim.Native.Nat.{_+_, _≤_, _<_};
 ghost use mathlib.Core.List.{_++_};
 ghost use lib.ListN.{length};
-ghost use Rattle.texts.specs.Texts.{digit, digits, decimal, Put};
+ghost use Rattle.texts.specs.Texts.{digit, digits, decimal};
+ghost use Rattle.texts.specs.Buffers.{Put};
 ghost use Rattle.texts.specs.Lines.{taskText};
 
 // Twenty digits hold every number of 64 bits.

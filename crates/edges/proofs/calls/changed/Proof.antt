@@ -1,7 +1,7 @@
 use borrow.Author.Needs.{needs}
 use Prim.Native.Nat.{_≤_, _-_}
 use mathlib.Core.Logic.{⊎-elim}
-use Rattle.texts.specs.Lines.{lineLimit}
+use Rattle.texts.specs.Buffers.{lineLimit}
 use native.Mathlib.Omega.{arith}
 use Rattle.edges.proofs.calls.changed.Statement.{statement}
 use Rattle.edges.proofs.calls.changed.Tie as tie

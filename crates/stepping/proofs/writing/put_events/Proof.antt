@@ -6,8 +6,9 @@ use native.Mathlib.Omega.{arith}
 use lib.ListN.{length, take, drop}
 use borrow.Author.Needs.{needs}
 use Rattle.states.specs.Writing.{lineSize}
-use Rattle.texts.specs.Texts.{eachText, Put}
-use Rattle.texts.specs.Lines.{lineLimit}
+use Rattle.texts.specs.Texts.{eachText}
+use Rattle.texts.specs.Buffers.{Put}
+use Rattle.texts.specs.Buffers.{lineLimit}
 use Rattle.texts.proofs.Laws.{put-none, put-more}
 use Rattle.stepping.specs.Pages.{wide, eventsText}
 use Rattle.stepping.proofs.writing.put_events.Statement.{statement}

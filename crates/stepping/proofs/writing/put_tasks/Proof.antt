@@ -4,8 +4,9 @@ use mathlib.Core.Path.{_≡_, _∙_}
 use native.Mathlib.Omega.{arith}
 use lib.ListN.{length}
 use borrow.Author.Needs.{needs}
-use Rattle.texts.specs.Texts.{eachText, Put}
-use Rattle.texts.specs.Lines.{lineLimit}
+use Rattle.texts.specs.Texts.{eachText}
+use Rattle.texts.specs.Buffers.{Put}
+use Rattle.texts.specs.Buffers.{lineLimit}
 use Rattle.texts.proofs.Laws.{put-none, put-more}
 use Rattle.stepping.specs.Files.{tasksText}
 use Rattle.stepping.proofs.writing.put_tasks.Statement.{statement}

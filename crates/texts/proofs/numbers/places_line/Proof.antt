@@ -1,6 +1,6 @@
 use borrow.Author.Needs.{needs}
 use native.Mathlib.Omega.{arith}
-use Rattle.texts.specs.Lines.{eventText}
+use Rattle.texts.specs.Buffers.{eventText}
 use Rattle.texts.proofs.Laws.{put-then, line-narrow, line-put}
 use Rattle.texts.proofs.Lengths.{number-short, byte-short}
 use Rattle.texts.proofs.numbers.places_line.Statement.{statement}

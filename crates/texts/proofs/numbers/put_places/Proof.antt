@@ -3,8 +3,9 @@ use Prim.Native.Nat.{_+_, _*_, _-_, _≤_}
 use mathlib.Core.Path.{_≡_}
 use native.Mathlib.Omega.{arith}
 use lib.ListN.{length}
-use Rattle.texts.specs.Texts.{eachText, Put}
-use Rattle.texts.specs.Lines.{placesText, placeWidth}
+use Rattle.texts.specs.Texts.{eachText}
+use Rattle.texts.specs.Buffers.{Put}
+use Rattle.texts.specs.Buffers.{placesText, placeWidth}
 use Rattle.texts.proofs.Laws.{put-none, put-more}
 use Rattle.texts.proofs.Lengths.{place-short}
 use Rattle.texts.proofs.numbers.put_places.Statement.{statement}

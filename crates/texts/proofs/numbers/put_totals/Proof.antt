@@ -4,8 +4,10 @@ use mathlib.Core.Path.{_≡_}
 use native.Mathlib.Omega.{arith}
 use lib.ListN.{length, getD}
 use Rattle.protocol.specs.Words.{totalCount}
-use Rattle.texts.specs.Texts.{eachText, Put}
-use Rattle.texts.specs.Lines.{totalsText, totalWidth}
+use Rattle.texts.specs.Texts.{eachText}
+use Rattle.texts.specs.Buffers.{Put}
+use Rattle.texts.specs.Lines.{totalsText}
+use Rattle.texts.specs.Buffers.{totalWidth}
 use Rattle.texts.proofs.Laws.{put-none, put-more}
 use Rattle.texts.proofs.Lengths.{total-short}
 use mir.Syntax.{w32}

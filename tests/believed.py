@@ -1,0 +1,109 @@
+#!/usr/bin/env python3
+"""How much has to be believed: the lines of the definitions under specs/, imports, comments and blank lines apart.
+
+    python3 tests/believed.py          each part with its files, and the sums
+    python3 tests/believed.py check    whether README.md and docs/TOUR.md give these sums, and every file is in a part
+
+Whoever believes the rules and the bytes and texts knows what the program prints of a file: the theorems say so. The
+statements are what the theorems promise; the calls are what a caller of the library must read besides. Private
+definitions are cited by contracts that no other crate can see, or by laws alone: nothing of them has to be believed.
+"""
+
+import re
+import sys
+from pathlib import Path
+
+ROOT = Path(__file__).resolve().parent.parent
+
+PARTS = {
+    'rules': {
+        'search': 'Words Below First Best Rows Table',
+        'queue': 'Limits Waiting',
+        'processors': 'Limits Words',
+        'scheduler': 'Arriving Leaving',
+        'placement': 'PlacedTest',
+        'input': 'Limits Words Kinds',
+        'setups': 'Refusals Naming Clearing',
+        'protocol': 'Words Ranks Situations Sound Refusals Locks Events',
+    },
+    'bytes and texts': {
+        'input': 'Layout',
+        'blocks': 'Sizes Check Verdicts',
+        'texts': 'Texts Lines',
+        'stepping': 'Files',
+    },
+    'statements': {
+        'search': 'Numbered',
+        'queue': 'Tidy',
+        'scheduler': 'Placed',
+        'setups': 'Accepted Groups Numbers',
+        'protocol': 'Numbers Demands Cases Impostors',
+        'blocks': 'OneByte Numbers',
+        'texts': 'Values',
+        'lines': 'Numbers',
+        'stepping': 'Program',
+        'step': 'PrintedCases',
+    },
+    'calls': {
+        'views': 'Bounds',
+        'states': 'Writing',
+        'locking': 'Playing',
+        'texts': 'Buffers',
+        'lines': 'Lines',
+        'stepping': 'Pages',
+    },
+    'private': {
+        'scheduler': 'Changes',
+        'setups': 'Sized',
+        'protocol': 'Edited',
+        'tables': 'Holders',
+        'soundness': 'Opens Parts',
+        'locking': 'Acting Steps',
+    },
+}
+NO_DEFINITION = re.compile(r'(use|pub mod|unfolding|infix[lr]?) ')
+
+
+def lines_of(path):
+    """The lines of a file of definitions that say something."""
+    bare = (line.split('--')[0].strip() for line in path.read_text(encoding='utf-8').splitlines())
+    return sum(1 for line in bare if line and not NO_DEFINITION.match(line))
+
+
+def files_of(part):
+    for crate, names in PARTS[part].items():
+        for name in names.split():
+            yield f'crates/{crate}/specs/{name}.antt'
+
+
+def total(part):
+    return sum(lines_of(ROOT / name) for name in files_of(part))
+
+
+def show():
+    for part in PARTS:
+        print(f'{part}: {total(part)}')
+        for name in files_of(part):
+            print(f'  {lines_of(ROOT / name):4} {name}')
+
+
+def check():
+    listed = [name for part in PARTS for name in files_of(part)]
+    there = [str(path.relative_to(ROOT)) for path in ROOT.glob('crates/*/specs/*.antt') if path.name != 'Lib.antt']
+    faults = [f'{name} is in no part' for name in sorted(set(there) - set(listed))]
+    faults += [f'{name} is not there' for name in sorted(set(listed) - set(there))]
+    for page in ('README.md', 'docs/TOUR.md'):
+        text = ' '.join((ROOT / page).read_text(encoding='utf-8').split())
+        for part in ('rules', 'bytes and texts'):
+            if f'{total(part)} lines of {part}' not in text:
+                faults.append(f'{page} does not say {total(part)} lines of {part}')
+    print('\n'.join(faults) if faults else 'the figures are right')
+    return 1 if faults else 0
+
+
+if __name__ == '__main__':
+    if sys.argv[1:] == ['check']:
+        sys.exit(check())
+    if sys.argv[1:]:
+        sys.exit(__doc__)
+    show()
