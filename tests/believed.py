@@ -36,7 +36,7 @@ PARTS = {
         'search': 'Numbered',
         'queue': 'Tidy',
         'scheduler': 'Placed',
-        'setups': 'Accepted Groups Numbers',
+        'setups': 'Accepted Groups Unread Numbers',
         'protocol': 'Numbers Demands Cases Impostors',
         'blocks': 'OneByte Numbers',
         'texts': 'Values',

@@ -18,7 +18,8 @@ use Rattle.input.specs.Words.{period, kind, outerOf, innerOf, someTask, someRes
 use Rattle.setups.specs.Refusals.{inLimits, isStray, isLongInShort, setUpRows, setUpRefusal}
 use Rattle.setups.specs.Sized.{Sized}
 use Rattle.setups.specs.Naming.{areAlike, joinedBy, namesAfter, names}
-use Rattle.setups.specs.Clearing.{below, cleared, RefusalKept, NamesKept, emptyFrom, isClear}
+use Rattle.setups.specs.Clearing.{below, cleared, emptyFrom, isClear}
+use Rattle.setups.specs.Unread.{RefusalKept, NamesKept}
 use Rattle.input.specs.declared.SetUp.{SetUp}
 use Rattle.setups.proofs.Lists.{keptBelow}
 use Rattle.setups.proofs.Accepted.{and-none-iff}

@@ -1,6 +1,5 @@
 -- Document 01, 'Set-up': places past a count are not read; here they are 0.
 use Prim.Native.Nat.{ℕ}
-use mathlib.Core.Path.{_≡_}
 use mathlib.Core.Bool.{Bool, _&&_}
 use mathlib.Core.List.{List}
 use lib.Dec.{leb, ltb}
@@ -9,8 +8,6 @@ use Rattle.search.specs.Words.{if_then_else_, _is_, _implies_}
 use Rattle.search.specs.Below.{allBelow}
 use Rattle.search.specs.Table.{table}
 use Rattle.input.specs.Limits.{mostTasks, mostResources, mostPairs}
-use Rattle.setups.specs.Refusals.{setUpRefusal}
-use Rattle.setups.specs.Naming.{names}
 use Rattle.input.specs.declared.SetUp.{SetUp}
 
 -- l's places below n, of `most`; the others 0
@@ -29,13 +26,6 @@ cleared c = record {
   outer = below (c .pairs) mostPairs (c .outer);
   inner = below (c .pairs) mostPairs (c .inner);
 }
-
--- what stands past a count changes neither the refusal nor a group's name, of any set-up
-abbrev pub RefusalKept : Type 0
-RefusalKept = (c : SetUp) → setUpRefusal (cleared c) ≡ setUpRefusal c
-
-abbrev pub NamesKept : Type 0
-NamesKept = (c : SetUp) → names (cleared c) ≡ names c
 
 -- l's places from n on, of `most`, are 0
 unfoldable pub emptyFrom : ℕ → ℕ → List ℕ → Bool

@@ -5,3 +5,4 @@ pub mod Naming
 pub mod Refusals
 pub mod Sized
 pub mod Numbers
+pub mod Unread
