@@ -1,10 +1,12 @@
 -- A page out of the text that was put into its buffer: of any text, of one line, and of a line for each event. Assumes nothing.
 use Prim.Native.Nat.{ℕ, _+_, _*_, _/_, _%_, _≤_, min}
-use mathlib.Core.Path.{_≡_, ap, _∙_}
+use mathlib.Core.Path.{_≡_, refl, ap, _∙_}
 use mathlib.Core.Bool.{false}
 use mathlib.Core.List.{List}
+use native.Mathlib.Decide.{decLt}
 use native.Mathlib.Omega.{arith}
 use lib.ListN.{length, take, drop}
+use borrow.Author.Tests.{lt-ltb, le-ltb}
 use Rattle.search.proofs.Determined.{determined}
 use Rattle.input.specs.Layout.{eventCount}
 use Rattle.protocol.specs.declared.State.{State}
@@ -16,7 +18,7 @@ use Rattle.blocks.specs.Sizes.{mostEvents}
 use Rattle.texts.specs.Buffers.{Put}
 use Rattle.texts.specs.Buffers.{lineLimit, lineInto, narrow}
 use Rattle.texts.specs.declared.Line.{Line}
-use Rattle.stepping.specs.Pages.{wide, eventsText, eventPage, pageLimit, paged, pageInto}
+use Rattle.stepping.specs.Pages.{wide, eventsText, eventPage, pageLimit, paged, pageInto, PageNumbers}
 use Rattle.stepping.specs.declared.Session.{Session}
 use Rattle.stepping.specs.declared.Page.{Page}
 use Rattle.stepping.proofs.Parts.{line-given}
@@ -68,3 +70,11 @@ Allowed x read out r = (r ≡ pageInto x read out) × (r .0 .len ≤ length (r .
 
 pub next-page-determined : (x : Session) (read out : List ℕ) (r q : Page × List ℕ) → Allowed x read out r → Allowed x read out q → r ≡ q
 next-page-determined x read out r q a b = determined r q (a .0) (b .0)
+
+-- and its number says whether the buffer was long enough
+pub page-numbers : (x : Session) (read out : List ℕ) → PageNumbers x read out
+unfolding pageInto paged
+page-numbers x read out = elim (decLt (length out) pageLimit) [
+  | yes l ↦ rw (lt-ltb (length out) pageLimit l) (record { given = ((λ e. absurd (omega arith)), λ h. absurd (omega arith)); narrow = ((λ e. l), λ h. refl) })
+  | no l ↦ rw (le-ltb (length out) pageLimit (omega arith)) (record { given = ((λ e. omega arith), λ h. refl); narrow = ((λ e. absurd (omega arith)), λ h. absurd (l h)) })
+]

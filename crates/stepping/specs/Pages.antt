@@ -1,7 +1,9 @@
 -- Document 01, 'Printing': the page of lines that is printed of each block, and the last one, at the input's end.
-use Prim.Native.Nat.{ℕ, suc, _+_, _*_, _%_, min}
+use Prim.Native.Nat.{ℕ, suc, _+_, _*_, _%_, _<_, _≤_, min}
+use mathlib.Core.Path.{_≡_}
 use mathlib.Core.Bool.{true, false}
 use mathlib.Core.List.{List, []}
+use mathlib.Core.Logic.{_↔_}
 use lib.Dec.{ltb}
 use lib.ListN.{length}
 use Rattle.search.specs.Words.{if_then_else_, _is_}
@@ -82,3 +84,8 @@ paged (x, text) out = (record { session = x; number = 0; len = length text }, wr
 -- in a buffer that is too short nothing is written, and nothing goes on
 unfoldable pub pageInto : Session → List ℕ → List ℕ → Page × List ℕ
 pageInto x read out = if ltb (length out) pageLimit then (record { session = x; number = 36; len = 0 }, out) else paged (nextPage x read) out
+
+-- a page's number: 36 exactly where its buffer is too short, and else 0
+pub record PageNumbers (x : Session) (read out : List ℕ) : Type 0 where
+  pub given : (pageInto x read out .0 .number ≡ 0) ↔ (pageLimit ≤ length out)
+  pub narrow : (pageInto x read out .0 .number ≡ 36) ↔ (length out < pageLimit)
