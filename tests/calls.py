@@ -1,8 +1,11 @@
 """What is expected of the calls that crates/edges makes behind its files, worked out by hand from document 01.
 
-Of a line: its number from the list, its length, and how many bytes of the buffer were written: all of the line, or, refused,
-none. Of a block or an event: its number alone.
+Of a line: its number from the list, its length, and how many bytes of the buffer were written: all of the line, or,
+refused, none. Of a block or an event: its number alone. Behind them stand rows of hostile states, of pages and of
+parts, whose columns are told below.
 """
+
+from dataclasses import dataclass
 
 
 def line(text):
@@ -39,11 +42,150 @@ CALLS = [
     # Event kind 0, judged, stepped, and played twice: on a sound state 10, on the empty one 9.
     '10', '10', '10', '10',
     '9', '9', '9', '9',
-    # The largest numbers in a count of open requests, a queue's length, the counts, the times, and in all of them at once:
-    # judged, stepped and played, 9; and each line of such a state; not sound, and no job is told.
-    *(['9', '9', '9', '9', refused(9), refused(9), refused(9), '0 0'] * 5),
+]
+
+
+# ---- hostile states, numbered as in crates/edges/src/hostile.rt ----
+
+# The printed case after its fifth event, at clock 65,540, with a long resource 1 and a pair (1, 0) besides, which joins
+# nothing. The printed fifth line has the places. By 'Tick totals' task 0 has run from 65,530 on, task 1 from 65,532 on,
+# and task 2 has been linked but not running from 65,538 on.
+PLACES = '0/0 2/1'
+TOTALS = [(10, 0, 0, 0, 0), (8, 0, 0, 0, 0), (0, 0, 2, 0, 0)]
+MOST_32 = 2 ** 32 - 1
+MOST_64 = 2 ** 64 - 1
+
+
+def totals_text(totals):
+    """Last, per task its five totals."""
+    return ''.join(f"task {t} {' '.join(map(str, five))}\n" for t, five in enumerate(totals))
+
+
+def page(text, index, events, over, kept, number=0):
+    """A page's number; the session after it: index, events, whether the output is over, whether the state is as before;
+    the text's length, how many bytes were written, and the text's first line."""
+    first = text.partition('\n')[0]
+    return f'{number} {index} {events} {over} {kept} {len(text)} {len(text)} "{first}"'
+
+
+@dataclass
+class Hostile:
+    """The clause of 'A sound state' that a hostile number breaks, and what of it is seen: how many jobs are told, its
+    places, its totals."""
+    clause: str
+    jobs: int = 3
+    places: str = PLACES
+    totals: tuple = tuple(TOTALS)
+
+
+# Jobs told: the document leaves open what they are in a state that is not sound. Three are pending and none is
+# suspended, so three are runnable; but the crate `views` says that it tells none of a state whose resources or deadlines
+# are past their bounds. Places and totals: the document has at most 8 processors and 32 tasks.
+NEVER = ((0,) * 5,) * 29
+HOSTILE = [
+    Hostile('processors: set-up within the limits', places=PLACES + ' -/-' * 6),
+    Hostile('tasks: set-up within the limits', totals=(*TOTALS, *NEVER)),
+    Hostile('resources: set-up within the limits', jobs=0),
+    Hostile('pairs: set-up within the limits'),
+    Hostile('start: at most the clock'),
+    Hostile("period of task 0: a pending job's deadline is its last arrival plus its period"),
+    Hostile('kind of resource 0: free of 3'),
+    Hostile('outer of pair 0: free of 4'),
+    Hostile('inner of pair 0: free of 4'),
+    Hostile('clock and start: last arrivals between them'),
+    Hostile('deadline of task 0: its last arrival plus its period', jobs=0),
+    Hostile('last arrival of task 0: at most the clock'),
+    Hostile('a total of task 0: sum at most clock minus start', totals=((MOST_32, 0, 0, 0, 0), *TOTALS[1:])),
+    Hostile('totals of task 0: sum at most clock minus start', totals=((MOST_32,) * 5, *TOTALS[1:])),
+    Hostile('resource that task 0 waits for: waiting jobs stand in the queue of what they asked'),
+    Hostile('open requests of task 1: at most 8'),
+    Hostile('request 255 of task 1: within a group of which the job is holder'),
+    Hostile('request 254 of task 1: within a group of which the job is holder'),
+    Hostile('holder 255 of group 0: the job with the request is holder; only held groups have queues'),
+    Hostile('holder 254 of group 0: groups have no other holder'),
+    Hostile('length of the queue of group 0: waiting jobs stand once'),
+    Hostile('waiter 255 of group 0: queues hold waiting jobs only'),
+    Hostile('waiter 254 of group 0: queues hold waiting jobs only'),
+    Hostile('count beside the links: the processors are those of the set-up'),
+    Hostile('link 255 of processor 0: one without a link is idle', places='-/0 2/1'),
+    Hostile('link 254 of processor 0: linked jobs as demand 3 says', places='254/0 2/1'),
+    Hostile('running 255 on processor 0: one with a link is not idle', places='0/- 2/1'),
+    Hostile('running 254 on processor 0: only runnable jobs run', places='0/254 2/1'),
+    Hostile('link 254 of processor 7: places beyond the counts are empty'),
+    Hostile('running 254 on processor 7: places beyond the counts are empty'),
+    Hostile('holder 254 of group 31: places beyond the counts are empty'),
+    Hostile('request 254 of task 31: places beyond the counts are empty'),
+    Hostile('all at once', jobs=0, places='254/254 2/1' + ' -/-' * 5 + ' 254/254',
+            totals=((MOST_32,) * 5, *TOTALS[1:], *NEVER)),
+]
+
+
+def sound_rows():
+    """State 0 is the busy one itself, which is sound: what the other rows are to be held against.
+
+    Time passes to tick 9: accepted, and the state is another. The second event played has kind 255: 10.
+    """
+    first, event, task = 'processors 2 tasks 3 start 65530', f'6 0 {PLACES}', 'task 0 10 0 0 0 0'
+    return ['events 1 0 0 0 0 10 2 0', f'told 1 3 {line(first)} {line(event)} {line(task)}',
+            'block ' + page(f'{event}\n', 2, 6, 0, 0), 'end ' + page(totals_text(TOTALS), 1, 5, 1, 1)]
+
+
+def hostile_rows(one):
+    """'The state is not sound' comes first of 9 to 25, and 'a refused event hands back the same state'.
+
+    events: whether it is the busy state: no. Judged: 9. Stepped: 9, and the state as before: 1. Both events played: 9,
+    9, how many: 2, and the state as before: 1.
+    told: whether it is sound: no. The jobs. The three lines: each refused with 9, length 0, nothing written.
+    block: a good block is accepted, whatever the state, so the session goes on; the sixth event has the answer 9, and
+    the places are those of the same state.
+    end: the normal end, so the output is over; the totals of each task.
+    """
+    return ['events 0 9 9 1 9 9 2 1', f'told 0 {one.jobs} {refused(9)} {refused(9)} {refused(9)}',
+            'block ' + page(f'6 9 {one.places}\n', 2, 6, 0, 1), 'end ' + page(totals_text(one.totals), 1, 5, 1, 1)]
+
+
+# ---- pages of sessions by call, on the busy state: a block of number 65,535 with one event, and the input's end ----
+
+PAGES = [
+    # Index and events at their largest: the number is the index modulo 65,536, but the index is above 999,999, so 32,
+    # which ends the output. At the end the totals, as the index is not 0.
+    page(f'block {MOST_64} refused 32\n', MOST_64, MOST_64, 1, 1),
+    page(totals_text(TOTALS), MOST_64, MOST_64, 1, 1),
+    # Events alone at their largest. No input has so many, and the document says nothing: by the crate `stepping` the
+    # next number is 0.
+    page(f'0 0 {PLACES}\n', 65536, 0, 0, 0),
+    page(totals_text(TOTALS), 65535, MOST_64, 1, 1),
+    # The output has ended: nothing is printed.
+    page('', 65535, 5, 1, 1),
+    page('', 65535, 5, 1, 1),
+    # One byte less than the 84 lines of 96 bytes that a block can give: 36, nothing is written, and nothing goes on.
+    page('', 65535, 5, 0, 1, 36),
+    page('', 65535, 5, 0, 1, 36),
+    # The same where the output has ended, with the largest numbers.
+    page('', MOST_64, MOST_64, 1, 1, 36),
+    page('', MOST_64, MOST_64, 1, 1, 36),
+]
+
+
+# ---- parts of events, played on the busy state: time passes to tick 9, to tick 10, and a byte more ----
+
+# An event is 6 bytes, and 17 are written of each: the answer, and a link and a placement for 8 processors. The part's
+# length, and the buffer's; how many whole events have room; the clock after so many: 65,540, 65,545 or 65,546; how many
+# bytes were written, 17 for each, and how many of them behind those: none.
+PARTS = [
+    '13 51 2 65546 34 0',
+    '12 34 2 65546 34 0',
+    '12 33 1 65545 17 0',
+    '12 16 0 65540 0 0',
+    '5 51 0 65540 0 0',
+    '0 51 0 65540 0 0',
 ]
 
 
 def expected():
-    return ''.join(f'call {n} {told}\n' for n, told in enumerate(CALLS, 1))
+    rows = [f'call {n} {told}' for n, told in enumerate(CALLS, 1)]
+    for n, told in enumerate([sound_rows(), *map(hostile_rows, HOSTILE)]):
+        rows += [f'hostile {n} {row}' for row in told]
+    rows += [f"page {('block', 'end')[n % 2]} {told}" for n, told in enumerate(PAGES)]
+    rows += [f'part {told}' for told in PARTS]
+    return ''.join(f'{row}\n' for row in rows)

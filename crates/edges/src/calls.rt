@@ -1,7 +1,13 @@
 // Edges that no file can show: blocks at far indices, lines that are refused, and events on a state that is not sound.
+use crate::pages::event_block;
+use crate::printed;
+use crate::telling::LENT;
+use crate::telling::end_row;
+use crate::telling::print_answer;
+use crate::telling::print_line;
+use crate::telling::print_number;
 use blocks::Block;
 use input::Event;
-use input::SetUp;
 use libc::STDOUT_FILENO;
 use lines::Line;
 use protocol::State;
@@ -14,64 +20,19 @@ const ENOUGH: usize = Line::LIMIT;
 
 const SHORT: usize = Line::LIMIT - 1;
 
-// What the buffers hold before a line is written: a byte that no line has.
-const LENT: u8 = 7;
-
-fn print_number(n: u64) {
-    io::write_all(STDOUT_FILENO, b" ");
-    io::print_decimal(STDOUT_FILENO, n);
-}
-
 fn tell(call: u64, number: u8) {
     io::write_all(STDOUT_FILENO, b"call");
     print_number(call);
-    print_number(number as u64);
-    io::write_all(STDOUT_FILENO, b"\n");
-}
-
-// How many bytes are not as they were lent.
-fn changed(out: [u8; ENOUGH]) -> u64 {
-    let mut count = 0;
-    for i in 0..ENOUGH {
-        if out[i] != LENT {
-            count += 1;
-        }
-    }
-    count
+    print_answer(number);
+    end_row();
 }
 
 // A line's number and length, and how many bytes of the buffer were written.
 fn tell_line(call: u64, line: Line, out: [u8; ENOUGH]) {
     io::write_all(STDOUT_FILENO, b"call");
     print_number(call);
-    print_number(line.number as u64);
-    print_number(line.len as u64);
-    print_number(changed(out));
-    io::write_all(STDOUT_FILENO, b"\n");
-}
-
-// The set-up of the printed case, on so many processors.
-fn printed_set_up(processors: usize) -> SetUp {
-    let mut periods = [0u16; SetUp::TASKS];
-    periods[0] = 100;
-    periods[1] = 200;
-    periods[2] = 50;
-    SetUp {
-        processors,
-        tasks: 3,
-        resources: 1,
-        pairs: 0,
-        start: 65530,
-        periods,
-        kinds: [0u8; SetUp::RESOURCES],
-        outer: [0u8; SetUp::PAIRS],
-        inner: [0u8; SetUp::PAIRS],
-    }
-}
-
-fn state_on(processors: usize) -> State {
-    let reply = states::begin(printed_set_up(processors));
-    reply.state
+    print_line(line, &out);
+    end_row();
 }
 
 // The first line, an event's line and a task's line: of a state that is sound, or is not.
@@ -109,17 +70,7 @@ fn plain_lines(call: u64, room: usize)
 
 // The verdict on a block of one event, of the number given, at an index.
 fn tell_verdict(call: u64, number: u16, index: u64) {
-    let mut block = [0u8; Block::SIZE];
-    block[0] = (number % 256) as u8;
-    block[1] = (number / 256) as u8;
-    block[Block::KIND_AT] = Block::EVENTS;
-    block[Block::COUNT_AT] = 1;
-    block[Block::PAYLOAD_AT] = Event::PASSING;
-    let check = blocks::check_of(&block);
-    block[Block::CHECK_AT] = (check.first % 256) as u8;
-    block[Block::CHECK_AT + 1] = (check.first / 256 % 256) as u8;
-    block[Block::CHECK_AT + 2] = (check.second % 256) as u8;
-    block[Block::CHECK_AT + 3] = (check.second / 256 % 256) as u8;
+    let block = event_block(number);
     tell(call, blocks::number_of(blocks::judge(&block, index)));
 }
 
@@ -142,79 +93,9 @@ fn tell_answers(call: u64, state: State)
     tell(call + 3, written[17]);
 }
 
-// ---- states with the largest numbers, which no session has: each is answered at once, with 9
-const MOST: usize = 18446744073709551615;
-
-// In the count of task 0's open requests.
-fn deep(state: State) -> State {
-    let mut next = state;
-    let mut task = next.tasks[0];
-    task.depth = MOST;
-    next.tasks[0] = task;
-    next
-}
-
-// In the length of group 0's queue.
-fn long_queued(state: State) -> State {
-    let mut next = state;
-    let mut group = next.groups[0];
-    let mut queue = group.queue;
-    queue.len = MOST;
-    group.queue = queue;
-    next.groups[0] = group;
-    next
-}
-
-// In the counts of the set-up and of the processors.
-fn crowded(state: State) -> State {
-    let mut next = state;
-    let mut setup = next.setup;
-    setup.processors = MOST;
-    setup.tasks = MOST;
-    setup.resources = MOST;
-    setup.pairs = MOST;
-    next.setup = setup;
-    let mut p = next.processors;
-    p.count = MOST;
-    next.processors = p;
-    next
-}
-
-// In task 0's deadline, last arrival and totals, and in the clock.
-fn late(state: State) -> State {
-    let mut next = state;
-    let mut task = next.tasks[0];
-    task.deadline = 18446744073709551615;
-    task.arrived = true;
-    task.last = 4294967295;
-    task.totals = [4294967295u32; Task::TOTALS];
-    next.tasks[0] = task;
-    next.clock = 4294967295;
-    next
-}
-
-// Whether a state is sound, and the rank of task 0's job.
-fn tell_view(call: u64, state: State) {
-    io::write_all(STDOUT_FILENO, b"call");
-    print_number(call);
-    print_number(if soundness::is_sound(state) { 1 } else { 0 });
-    let jobs = views::jobs_of(state);
-    let job = jobs.of[0];
-    print_number(job.rank);
-    io::write_all(STDOUT_FILENO, b"\n");
-}
-
-fn tell_hostile(call: u64, state: State)
-    requires { ⌜ call < 900 ⌝ }
-{
-    tell_answers(call, state);
-    state_lines(call + 4, state, 0, ENOUGH);
-    tell_view(call + 7, state);
-}
-
 pub fn run_all() {
-    let sound = state_on(2);
-    let empty = state_on(0);
+    let sound = printed::state_on(2);
+    let empty = printed::state_on(0);
     state_lines(1, sound, 2, ENOUGH);
     state_lines(4, sound, 2, SHORT);
     state_lines(7, sound, 3, ENOUGH);
@@ -230,9 +111,4 @@ pub fn run_all() {
     tell_verdict(31, 16960, 1000000);
     tell_answers(32, sound);
     tell_answers(36, empty);
-    tell_hostile(40, deep(sound));
-    tell_hostile(48, long_queued(sound));
-    tell_hostile(56, crowded(sound));
-    tell_hostile(64, late(sound));
-    tell_hostile(72, late(crowded(long_queued(deep(sound)))));
 }

@@ -1,9 +1,19 @@
 // The edges of document 01: files of blocks from standard input, each stepped through as the stepping program does, and
 // then edges that no file can show, as calls.
+mod answers;
 mod calls;
+mod comparing;
 mod files;
+mod hostile;
+mod pages;
+mod parts;
+mod printed;
+mod telling;
 
 fn main() {
     files::run_all();
     calls::run_all();
+    answers::run_all();
+    pages::run_all();
+    parts::run_all();
 }

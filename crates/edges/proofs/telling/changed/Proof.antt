@@ -1,22 +1,21 @@
 use borrow.Author.Needs.{needs}
 use Prim.Native.Nat.{_≤_, _-_}
 use mathlib.Core.Logic.{⊎-elim}
-use Rattle.texts.specs.Buffers.{lineLimit}
 use native.Mathlib.Omega.{arith}
-use Rattle.edges.proofs.calls.changed.Statement.{statement}
-use Rattle.edges.proofs.calls.changed.Tie as tie
+use Rattle.edges.proofs.telling.changed.Statement.{statement}
+use Rattle.edges.proofs.telling.changed.Tie as tie
 
 abbrev Inv-loop : tie.InvT-loop
-Inv-loop out count₀ i₀ count i = (i ≤ lineLimit) × (count ≤ i)
+Inv-loop out from count₀ i₀ i-end count i = count ≤ i
 
 abbrev μ-loop : tie.MeasureT-loop
-μ-loop out count₀ i₀ count i = lineLimit - i
+μ-loop out from count₀ i₀ i-end count i = i-end - i
 
 loop-holds : tie.Need-loop-holds Inv-loop μ-loop
 loop-holds c = search needs
 
-array-read-if1 : tie.Need-array-read-if1 Inv-loop μ-loop
-array-read-if1 c = search needs
+shared-slice-read-if1 : tie.Need-shared-slice-read-if1 Inv-loop μ-loop
+shared-slice-read-if1 c = search needs
 
 add-count : tie.Need-add-count Inv-loop μ-loop
 add-count c = search needs
@@ -40,7 +39,7 @@ changed-spec =
     Inv-loop
     μ-loop
     loop-holds
-    array-read-if1
+    shared-slice-read-if1
     add-count
     add-i
     loop-less

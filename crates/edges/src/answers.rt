@@ -1,0 +1,113 @@
+// What every function answers on a state: on each hostile one at once, with 9, and the state is handed back as before.
+use crate::comparing::is_same;
+use crate::hostile;
+use crate::hostile::hostile;
+use crate::pages::event_block;
+use crate::pages::print_page;
+use crate::printed;
+use crate::telling::LENT;
+use crate::telling::end_row;
+use crate::telling::print_answer;
+use crate::telling::print_flag;
+use crate::telling::print_line;
+use crate::telling::print_number;
+use input::Event;
+use libc::STDOUT_FILENO;
+use lines::Line;
+use processors::Jobs;
+use protocol::Reply;
+use protocol::State;
+use stepping::Page;
+use stepping::Session;
+
+// Time passes to tick 9, and an event of which each number is the largest.
+const TWO_EVENTS: [u8; 12] = [5, 0, 0, 0, 9, 0, 255, 255, 255, 255, 255, 255];
+
+fn begin_row(which: u64, word: &[u8]) {
+    io::write_all(STDOUT_FILENO, b"hostile");
+    print_number(which);
+    io::write_all(STDOUT_FILENO, word);
+}
+
+// Whether the state is the busy one, so that the comparison is seen to see each number; the first event judged, and
+// stepped, and whether the state is as before; both played, how many they were, and whether the state is as before.
+fn tell_events(which: u64, state: State, busy: State) {
+    let e = Event {
+        kind: Event::PASSING,
+        task: 0,
+        resource: 0,
+        tick: 9,
+    };
+    begin_row(which, b" events");
+    print_flag(is_same(state, busy));
+    print_answer(locking::judge(state, e));
+    let reply = locking::step(state, e);
+    let after = reply.state;
+    print_answer(reply.answer);
+    print_flag(is_same(state, after));
+    let mut written = [LENT; 2 * Reply::LINE];
+    let played = locking::play(state, &TWO_EVENTS, &mut written);
+    let after = played.state;
+    print_answer(written[0]);
+    print_answer(written[Reply::LINE]);
+    print_number(played.count as u64);
+    print_flag(is_same(state, after));
+    end_row();
+}
+
+// How many jobs the scheduler is told of.
+fn told_jobs(state: State) -> u64 {
+    let jobs = views::jobs_of(state);
+    let mut count = 0;
+    for t in 0..Jobs::END {
+        if Jobs::PREEMPTABLE <= processors::mode_of(jobs, t) {
+            count += 1;
+        }
+    }
+    count
+}
+
+// Whether the state is sound, the jobs told, and its three lines, each into a buffer of its own.
+fn tell_lines(which: u64, state: State) {
+    begin_row(which, b" told");
+    print_flag(soundness::is_sound(state));
+    print_number(told_jobs(state));
+    let mut out = [LENT; Line::LIMIT];
+    let line = lines::first_line(state, &mut out);
+    print_line(line, &out);
+    let mut out = [LENT; Line::LIMIT];
+    let line = lines::event_line(state, 6, 0, &mut out);
+    print_line(line, &out);
+    let mut out = [LENT; Line::LIMIT];
+    let line = lines::task_line(state, 0, &mut out);
+    print_line(line, &out);
+    end_row();
+}
+
+// The pages of a session with that state, behind its set-up and five events: of a block of one event, and at the end.
+fn tell_pages(which: u64, state: State) {
+    let session = Session {
+        index: 1,
+        events: 5,
+        over: false,
+        state,
+    };
+    let block = event_block(1);
+    begin_row(which, b" block");
+    print_page(session, &block, Page::LIMIT);
+    begin_row(which, b" end");
+    print_page(session, b"", Page::LIMIT);
+}
+
+fn tell_state(which: u64, state: State, busy: State) {
+    tell_events(which, state, busy);
+    tell_lines(which, state);
+    tell_pages(which, state);
+}
+
+pub fn run_all() {
+    let busy = printed::busy();
+    for which in 0..hostile::STATES {
+        tell_state(which, hostile(busy, which), busy);
+    }
+}

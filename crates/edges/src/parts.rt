@@ -1,0 +1,49 @@
+// Parts of events that are not whole, and buffers without room for all of them.
+use crate::printed;
+use crate::telling::LENT;
+use crate::telling::changed;
+use crate::telling::end_row;
+use crate::telling::print_number;
+use libc::STDOUT_FILENO;
+use protocol::Reply;
+ghost use Prim.Native.Nat.{_≤_};
+
+// Room for three events.
+const ROOM: usize = 3 * Reply::LINE;
+
+// Time passes to ticks 9 and 10; and a byte of a third event.
+const EVENTS: [u8; 13] = [5, 0, 0, 0, 9, 0, 5, 0, 0, 0, 10, 0, 5];
+
+// How many bytes were written, and how many of them from place `from` on.
+fn print_changes(out: [u8; ROOM], from: usize) {
+    print_number(changed(&out, 0));
+    print_number(changed(&out, from));
+}
+
+// Plays the first `len` bytes into a buffer of `room`: how many events were played, the clock after them, and what was
+// written, in all and from place `from` on.
+fn tell_part(len: usize, room: usize, from: usize)
+    requires { ⌜ (len ≤ 13) × (room ≤ 51) ⌝ }
+{
+    let mut out = [LENT; ROOM];
+    let events = EVENTS;
+    let state = printed::busy();
+    let played = locking::play(state, &events[0..len], &mut out[0..room]);
+    let after = played.state;
+    io::write_all(STDOUT_FILENO, b"part");
+    print_number(len as u64);
+    print_number(room as u64);
+    print_number(played.count as u64);
+    print_number(after.clock as u64);
+    print_changes(out, from);
+    end_row();
+}
+
+pub fn run_all() {
+    tell_part(13, ROOM, 2 * Reply::LINE);
+    tell_part(12, 2 * Reply::LINE, 2 * Reply::LINE);
+    tell_part(12, 2 * Reply::LINE - 1, Reply::LINE);
+    tell_part(12, Reply::LINE - 1, 0);
+    tell_part(5, ROOM, 0);
+    tell_part(0, ROOM, 0);
+}

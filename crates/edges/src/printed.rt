@@ -1,0 +1,60 @@
+// The printed case of document 01: its set-up, and its state after five events.
+use input::Event;
+use input::SetUp;
+use protocol::State;
+
+// The set-up of the printed case, on so many processors.
+fn set_up(processors: usize) -> SetUp {
+    let mut periods = [0u16; SetUp::TASKS];
+    periods[0] = 100;
+    periods[1] = 200;
+    periods[2] = 50;
+    SetUp {
+        processors,
+        tasks: 3,
+        resources: 1,
+        pairs: 0,
+        start: 65530,
+        periods,
+        kinds: [0u8; SetUp::RESOURCES],
+        outer: [0u8; SetUp::PAIRS],
+        inner: [0u8; SetUp::PAIRS],
+    }
+}
+
+pub fn state_on(processors: usize) -> State {
+    let reply = states::begin(set_up(processors));
+    reply.state
+}
+
+// The state after an event of the printed case, whose only resource is 0.
+fn after(state: State, kind: u8, task: u8, tick: u16) -> State {
+    let reply = locking::step(
+        state,
+        Event {
+            kind,
+            task,
+            resource: 0,
+            tick,
+        },
+    );
+    reply.state
+}
+
+// The state after five events. Task 1 holds resource 0 and runs on processor 1, to which task 2 is linked; task 0 spins
+// for it on processor 0. A long resource, and a pair of it and the short one, which joins nothing, are there as well,
+// so that the state has a number of every sort.
+pub fn busy() -> State {
+    let mut setup = set_up(2);
+    setup.resources = 2;
+    setup.kinds[1] = SetUp::LONG;
+    setup.pairs = 1;
+    setup.outer[0] = 1;
+    setup.inner[0] = 0;
+    let begun = states::begin(setup);
+    let first = after(begun.state, Event::ARRIVAL, 0, 65530);
+    let second = after(first, Event::ARRIVAL, 1, 65532);
+    let third = after(second, Event::REQUEST, 1, 65535);
+    let fourth = after(third, Event::ARRIVAL, 2, 2);
+    after(fourth, Event::REQUEST, 0, 4)
+}
