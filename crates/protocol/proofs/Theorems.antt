@@ -2,12 +2,13 @@
 use mathlib.Core.Path.{_≡_, refl, ap, subst, _∙_}
 use mathlib.Core.List.{List}
 use borrow.Author.Tests.{eq-eqb, ne-eqb}
+use Rattle.search.specs.Below.{allBelow}
 use Rattle.search.proofs.Tables.{replicate-at}
 use Rattle.processors.specs.Limits.{processors}
 use Rattle.processors.specs.Words.{noneLinked}
 use Rattle.input.specs.Limits.{mostTasks, mostResources}
 use Rattle.setups.specs.Refusals.{setUpRefusal}
-use Rattle.setups.specs.Clearing.{cleared}
+use Rattle.setups.specs.Clearing.{cleared, emptyFrom, isClear}
 use Rattle.input.specs.declared.SetUp.{SetUp}
 use Rattle.input.specs.declared.Event.{Event}
 use Rattle.protocol.specs.Words.{nobody, noTask, noGroup}
@@ -70,12 +71,13 @@ pub refused-kept : RefusedKeeps
 refused-kept = refused-keeps-by
 
 pub refused-empty : RefusedIsEmpty
-unfolding begin fresh noneLinked
+unfolding begin fresh noneLinked isClear emptyFrom allBelow
 refused-empty c h = rw (ne-eqb (setUpRefusal c) 0 h) (
   refl,
   record {
     processors = (refl, refl);
     counts = (refl, refl, refl);
+    tables = refl;
     clock = (refl, refl);
     links = λ k. (replicate-at processors k nobody, replicate-at processors k nobody);
     tasks = λ t. replicate-at mostTasks t noTask;

@@ -18,6 +18,7 @@ use Rattle.input.specs.Limits.{mostTasks, short}
 use Rattle.input.specs.Words.{kind}
 use Rattle.setups.specs.Refusals.{setUpRefusal}
 use Rattle.setups.specs.Naming.{groupOf}
+use Rattle.setups.specs.Clearing.{isClear}
 use Rattle.input.specs.Kinds.{arrival, finish, request as asking, completion}
 use Rattle.input.specs.declared.SetUp.{SetUp}
 use Rattle.input.specs.declared.Event.{Event}
@@ -157,6 +158,10 @@ pendingTicks s (m ∷ ms) t pending since =
     else if accepts s e finish && e .task is t then (next .clock - since) + pendingTicks next ms t false 0
     else pendingTicks next ms t pending since
 
+-- the five totals sum to them; nobody is pending at the start
+abbrev pub TotalsSum : SetUp → List Move → Type 0
+TotalsSum c ms = (t : ℕ) → sum (task (after c ms) t .totals) ≡ pendingTicks (begin c .state) ms t false 0
+
 -- an accepted step's ticks go, for a pending task, to the one total of its situation before the event; else nowhere
 abbrev pub Charges : State → Prefers → Event → ℕ → Type 0
 Charges s pick e t =
@@ -179,9 +184,8 @@ abbrev pub AlwaysCharges : Type 0
 AlwaysCharges = Always (λ c ms. (pick : Prefers) (e : Event) (t : ℕ) → judge (after c ms) e ≡ 0 → t < mostTasks
     → Charges (after c ms) pick e t)
 
--- the five totals sum to the ticks pending; nobody is pending at the start
 abbrev pub AlwaysSums : Type 0
-AlwaysSums = Always (λ c ms. (t : ℕ) → sum (task (after c ms) t .totals) ≡ pendingTicks (begin c .state) ms t false 0)
+AlwaysSums = Always TotalsSum
 
 -- a refused event can be left out
 abbrev pub RefusedLeftOut : Type 0
@@ -196,6 +200,7 @@ RefusedKeeps = (pick : Prefers) (s : State) (e : Event) → stepBy pick s e .ans
 pub record IsEmpty (s : State) : Type 0 where
   pub processors : (s .setup .processors ≡ 0) × (s .processors .count ≡ 0)
   pub counts : (s .setup .tasks ≡ 0) × (s .setup .resources ≡ 0) × (s .setup .pairs ≡ 0)
+  pub tables : isClear (s .setup) ≡ true
   pub clock : (s .setup .start ≡ 0) × (s .clock ≡ 0)
   pub links : (k : ℕ) → (link (s .processors) k ≡ nobody) × (runs (s .processors) k ≡ nobody)
   pub tasks : (t : ℕ) → task s t ≡ noTask

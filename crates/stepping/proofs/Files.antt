@@ -25,7 +25,7 @@ use Rattle.protocol.specs.declared.State.{State}
 use Rattle.protocol.proofs.Statements.{Sound}
 use Rattle.protocol.proofs.Begin.{begin-sound}
 use Rattle.protocol.proofs.Step.{run-sound, run-setup, run-join}
-use Rattle.protocol.proofs.Theorems.{demand-3-after}
+use Rattle.protocol.proofs.Theorems.{demand-3-after, totals-sum-after}
 use Rattle.blocks.specs.Sizes.{blockSize, mostEvents}
 use Rattle.blocks.specs.Verdicts.{blockRows, verdict}
 use Rattle.blocks.specs.OneByte.{AreBytes}
@@ -226,7 +226,11 @@ pub files-print-the-rules : FilesPrintTheRules
 files-print-the-rules bytes all = record {
   text = by-the-rules (blocksOf bytes) (read-all bytes all) .0;
   states = λ n. sym (end-keeps beginning (take n (blocksOf bytes))) ∙ by-the-rules (take n (blocksOf bytes)) (read-first bytes all n) .1;
-  demands = λ b n. demand-3-after (setUpOf (blocksOf bytes)) (given (getD (blocksOf bytes) 0 []) (b .opens) (b .setup) (block-bytes bytes all 0)) (plain (take n (eventsOf (blocksOf bytes))));
+  demands = λ b n.
+      let c = setUpOf (blocksOf bytes) in
+      let ms = plain (take n (eventsOf (blocksOf bytes))) in
+      let g = given (getD (blocksOf bytes) 0 []) (b .opens) (b .setup) (block-bytes bytes all 0) in
+      (demand-3-after c g ms, totals-sum-after c g ms);
 }
 
 -- ---- a file whose blocks are all accepted

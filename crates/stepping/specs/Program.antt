@@ -8,7 +8,7 @@ use Rattle.input.specs.declared.SetUp.{SetUp}
 use Rattle.input.specs.declared.Event.{Event}
 use Rattle.setups.specs.Refusals.{setUpRefusal}
 use Rattle.protocol.specs.Events.{plain, begin}
-use Rattle.protocol.specs.Demands.{Given, after, Demand3}
+use Rattle.protocol.specs.Demands.{after, Demand3, TotalsSum}
 use Rattle.blocks.specs.OneByte.{AreBytes}
 use Rattle.texts.specs.Lines.{firstText}
 use Rattle.stepping.specs.Pages.{beginning, nextPage}
@@ -31,11 +31,11 @@ pub record Begins (blocks : List (List ℕ)) : Type 0 where
   pub opens : refusalOf (firstBlock blocks) 0 ≡ 0
   pub setup : setUpRefusal (setUpOf blocks) ≡ 0
 
--- demand 3 at every line: before the first of some events, and after each
+-- demand 3 at every line, before the first of some events and after each; and each task's totals sum to the ticks pending
 abbrev pub DemandsHold : SetUp → List Event → Type 0
-DemandsHold c es = (n : ℕ) → Demand3 c (plain (take n es))
+DemandsHold c es = (n : ℕ) → Demand3 c (plain (take n es)) × TotalsSum c (plain (take n es))
 
--- ---- any file: what is printed, the state after so many blocks, and demand 3
+-- ---- any file: what is printed, the state after so many blocks, and the demands
 pub record PrintsTheRules (bytes : List ℕ) : Type 0 where
   pub text : printed bytes ≡ fileText (blocksOf bytes)
   pub states : (n : ℕ) → pages beginning (take n (blocksOf bytes)) .0 .state ≡ fileState (take n (blocksOf bytes))
