@@ -104,11 +104,6 @@ module _ (p : Processors) (j j′ : Jobs) (P : Placed p j) where
         pub giving-way-law : Lowers j j′ t → Placed (givingWay p j′ t) j′
         giving-way-law L = gives-way-placed p j t P t-in on soft j′ L
 
--- ---- who is linked, runs, and must
--- as many processors are linked as there are, or as there are runnable jobs, if fewer
-pub linked-many-law : (p : Processors) (j : Jobs) → Placed p j → howMany (λ k. link p k isn't nobody) processors ≡ min (p .count) (howMany (isRunnable j) tasks)
-linked-many-law p j P = linked-many p j P
-
 -- the counting form of `Placed` and `Placed` say the same
 pub counted-law : (p : Processors) (j : Jobs) → Settled p j → Placed p j ↔ Counted p j
 counted-law p j S = ((λ P. record { highest = λ t l. linked-counted p j t P l; many = linked-many p j P }), λ C. placed-counted p j S C)

@@ -59,11 +59,6 @@ module _ (c : SetUp) where
       go true e h = rw e (simp length-map h)
       go false e h = rw e h
 
-  -- one name for each place
-  pub names-length : length (names c) ≡ mostResources
-  unfolding names
-  names-length = after-length mostPairs
-
   -- ---- what one pair does to a name
   label-none : (r : ℕ) → r < mostResources → label c 0 r ≡ r
   unfolding label namesAfter

@@ -1,6 +1,6 @@
 -- A page out of the text that was put into its buffer: of any text, of one line, and of a line for each event. Assumes nothing.
-use Prim.Native.Nat.{ℕ, _+_, _*_, _/_, _%_, _≤_, min}
-use mathlib.Core.Path.{_≡_, refl, ap, _∙_}
+use Prim.Native.Nat.{ℕ, _+_, _*_, _/_, _%_, _≤_, _<_, min}
+use mathlib.Core.Path.{_≡_, ap, _∙_}
 use mathlib.Core.Bool.{false}
 use mathlib.Core.List.{List}
 use native.Mathlib.Decide.{decLt}
@@ -72,9 +72,17 @@ pub next-page-determined : (x : Session) (read out : List ℕ) (r q : Page × Li
 next-page-determined x read out r q a b = determined r q (a .0) (b .0)
 
 -- and its number says whether the buffer was long enough
-pub page-numbers : (x : Session) (read out : List ℕ) → PageNumbers x read out
-unfolding pageInto paged
-page-numbers x read out = elim (decLt (length out) pageLimit) [
-  | yes l ↦ rw (lt-ltb (length out) pageLimit l) (record { given = ((λ e. absurd (omega arith)), λ h. absurd (omega arith)); narrow = ((λ e. l), λ h. refl) })
-  | no l ↦ rw (le-ltb (length out) pageLimit (omega arith)) (record { given = ((λ e. omega arith), λ h. refl); narrow = ((λ e. absurd (omega arith)), λ h. absurd (l h)) })
-]
+module _ (x : Session) (read out : List ℕ) where
+  number-narrow : length out < pageLimit → pageInto x read out .0 .number ≡ 36
+  unfolding pageInto
+  number-narrow l = rw (lt-ltb (length out) pageLimit l)
+
+  number-given : pageLimit ≤ length out → pageInto x read out .0 .number ≡ 0
+  unfolding pageInto paged
+  number-given l = rw (le-ltb (length out) pageLimit l)
+
+  pub page-numbers : PageNumbers x read out
+  page-numbers = elim (decLt (length out) pageLimit) [
+    | yes l ↦ record { given = ((λ e. absurd (omega (arith, e, number-narrow l))), number-given); narrow = ((λ e. l), number-narrow) }
+    | no l ↦ record { given = ((λ e. omega arith), number-given); narrow = ((λ e. absurd (omega (arith, e, number-given (omega arith)))), number-narrow) }
+  ]
