@@ -104,6 +104,7 @@ module _ (p : Processors) (j j′ : Jobs) (P : Placed p j) where
         pub giving-way-law : Lowers j j′ t → Placed (givingWay p j′ t) j′
         giving-way-law L = gives-way-placed p j t P t-in on soft j′ L
 
+-- ---- who is linked, runs, and must
 -- the counting form of `Placed` and `Placed` say the same
 pub counted-law : (p : Processors) (j : Jobs) → Settled p j → Placed p j ↔ Counted p j
 counted-law p j S = ((λ P. record { highest = λ t l. linked-counted p j t P l; many = linked-many p j P }), λ C. placed-counted p j S C)
