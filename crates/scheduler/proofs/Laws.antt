@@ -1,16 +1,16 @@
 -- The laws of links and placements, as the layers above cite them. Ranks are distinct where a law's change of jobs says so (`Apart`). Assumes nothing.
-use Prim.Native.Nat.{ℕ, suc, _<_, _≤_, min}
+use Prim.Native.Nat.{ℕ, suc, _<_, _≤_}
 use mathlib.Core.Path.{_≡_, refl, subst, _∙_}
 use mathlib.Core.Bool.{Bool, true, false, _&&_}
 use mathlib.Core.Logic.{_≢_, _⊎_, inl, _↔_}
 use native.Mathlib.Omega.{arith}
 use native.Mathlib.Decide.{decLt}
 use lib.Dec.{ltb}
-use Rattle.search.specs.Words.{if_then_else_, _isn't_}
+use Rattle.search.specs.Words.{if_then_else_}
 use Rattle.search.specs.Below.{howMany}
 use Rattle.search.proofs.Tables.{replicate-at}
 use Rattle.processors.specs.Limits.{processors, tasks, nobody, preemptable, nonPreemptable}
-use Rattle.processors.specs.Words.{link, runs, linkOf, runOf, modeOf, isRunnable, isHigher, isAhead, isAwaited, noneLinked, placeOn}
+use Rattle.processors.specs.Words.{link, runs, linkOf, runOf, modeOf, isHigher, isAhead, isAwaited, noneLinked, placeOn}
 use Rattle.scheduler.specs.Arriving.{lowestLinked, isPreempted, displacing, arrivingOn, taken, arriving}
 use Rattle.scheduler.specs.Leaving.{becomingPreemptable, nextTask, filling, refilling, leavingFrom, leaving, givingWay}
 use Rattle.scheduler.specs.Placed.{Runnable, Sized, Settled, Counted, Placed, Served, LinkedOnly}
