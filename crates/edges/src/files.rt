@@ -8,24 +8,25 @@ use stepping::Session;
 // More than the input has.
 const MOST_FILES: u64 = 1000;
 
-// Reads a block, writes the page of what came, and gives the session after it.
-fn take_block(session: Session, block: &mut [u8], out: &mut [u8]) -> Session {
-    let got = io::read_full(STDIN_FILENO, block);
-    let page = stepping::next_page(session, &block[..got], out);
+// Writes the page of a block of which `read` came, and gives the session after it.
+fn write_page(session: Session, read: &[u8]) -> Session {
+    let mut out = [0u8; Page::LIMIT];
+    let page = stepping::next_page(session, read, &mut out);
     let len = page.len;
     io::write_all(STDOUT_FILENO, &out[0..len]);
     page.session
 }
 
-// The same of a file that has `left` bytes left: its last block may be shorter, and past its end nothing is read.
+// Takes a block of a file that has `left` bytes left: its last block may be shorter, and past its end nothing is read.
 fn take_block_of(session: Session, left: usize) -> Session {
     let mut block = [0u8; Block::SIZE];
-    let mut out = [0u8; Page::LIMIT];
-    if left < Block::SIZE {
-        take_block(session, &mut block[0..left], &mut out)
+    let wanted = if left < Block::SIZE {
+        left
     } else {
-        take_block(session, &mut block, &mut out)
-    }
+        Block::SIZE
+    };
+    let got = io::read_full(STDIN_FILENO, &mut block[0..wanted]);
+    write_page(session, &block[0..got])
 }
 
 // How many bytes are left behind a block.

@@ -40,17 +40,7 @@ fn in_set_up(setup: SetUp, which: u64) -> SetUp {
 
 // The task with its job waiting for a short resource.
 fn waiting_for(task: Task, resource: u8) -> Task {
-    let requests = task.requests;
-    let totals = task.totals;
-    Task {
-        standing: Standing::Waiting(Lock::Short(resource)),
-        deadline: task.deadline,
-        arrived: task.arrived,
-        last: task.last,
-        requests,
-        depth: task.depth,
-        totals,
-    }
+    tables::with_standing(task, Standing::Waiting(Lock::Short(resource)))
 }
 
 // 11 to 15: the times and totals of task 0, whose job waits, and the resource that it asked for.

@@ -85,7 +85,7 @@ calls-depth s g u =
     (set-either (s .tasks) (nextAt s g) u (standingAs Active (task s (nextAt s g))) _)
 
 -- no task has more open after a completion
-pub closes-depth : (s : State) (t u : ℕ) → depth (closes t s) u ≤ depth s u
+closes-depth : (s : State) (t u : ℕ) → depth (closes t s) u ≤ depth s u
 unfolding closes depth
 closes-depth s t u =
     ⊎-elim

@@ -12,24 +12,8 @@ ghost use Prim.Native.Nat.{_≤_, _<_};
 ghost use lib.ListN.{getD};
 ghost use Rattle.input.specs.Limits.{mostTasks, mostResources};
 ghost use Rattle.protocol.specs.Words.{mostRequests, depth};
-ghost use Rattle.protocol.specs.Locks.{standingAs, opening, closing, arriving, departing, onTask, withGroup, lockOf, opens, queues, closes, frees, nextAt, passes};
+ghost use Rattle.protocol.specs.Locks.{opening, closing, arriving, departing, onTask, withGroup, lockOf, opens, queues, closes, frees, nextAt, passes};
 ghost use Rattle.protocol.specs.Events.{withProcessors};
-
-pub fn with_standing(task: Task, standing: Standing) -> Task
-    ensures { λ r. ⌜ r ≡ standingAs standing task ⌝ }
-{
-    let requests = task.requests;
-    let totals = task.totals;
-    Task {
-        standing,
-        deadline: task.deadline,
-        arrived: task.arrived,
-        last: task.last,
-        requests,
-        depth: task.depth,
-        totals,
-    }
-}
 
 // One request more is open.
 fn opened(task: Task, r: u8) -> Task
@@ -149,7 +133,7 @@ pub fn queue_request(state: State, t: u8, r: u8, kind: u8, g: u8) -> State
     let task = tables::task_at(tasks, t);
     let group = tables::group_at(groups, g as usize);
     let queue = group.queue;
-    let waits = with_standing(task, Standing::Waiting(lock_of(kind, r)));
+    let waits = tables::with_standing(task, Standing::Waiting(lock_of(kind, r)));
     with_group(with_task(state, t, waits), g, group.holder, queue.append(t))
 }
 
@@ -185,7 +169,7 @@ pub fn pass_group(state: State, g: u8) -> State
     let u = queue.first();
     let task = tables::task_at(tasks, u);
     let standing = task.standing;
-    let active = with_task(state, u, with_standing(task, Standing::Active));
+    let active = with_task(state, u, tables::with_standing(task, Standing::Active));
     let called = with_group(active, g, group.holder, queue.without_first());
     open_request(called, u, states::asked_of(standing), g)
 }

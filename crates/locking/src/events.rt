@@ -19,12 +19,11 @@ ghost use mathlib.Core.Path.{_≡_};
 ghost use mathlib.Core.Bool.{true, false};
 ghost use Prim.Native.Nat.{ℕ, _+_, _≤_, _<_};
 ghost use lib.ListN.{getD};
-ghost use Rattle.search.specs.Words.{if_then_else_, _is_};
-ghost use Rattle.search.specs.Below.{anyBelow};
+ghost use Rattle.search.specs.Words.{if_then_else_};
 ghost use Rattle.input.specs.Limits.{mostTasks, mostResources};
 ghost use Rattle.scheduler.specs.Leaving.{leaving};
 ghost use Rattle.setups.specs.Naming.{names, groupOf};
-ghost use Rattle.protocol.specs.Words.{mostRequests, nobody, absent, standingNo, lastClock, sum, noTask};
+ghost use Rattle.protocol.specs.Words.{absent, standingNo, lastClock, sum, noTask};
 ghost use Rattle.protocol.specs.Situations.{totalOf};
 ghost use Rattle.protocol.specs.Locks.{frees, passes};
 ghost use Rattle.protocol.specs.Events.{cold, withProcessors, arrives, softens, givesWay, arriveEvent, finishEvent, requestEvent, completeEvent, charged, act};
@@ -87,23 +86,6 @@ fn finish(state: State, t: u8) -> State
     leave(gone, views::jobs_of(gone), t)
 }
 
-// Some open request is of kind `kind`.
-fn has_kind(
-    kinds: [u8; SetUp::RESOURCES],
-    requests: [u8; Task::REQUESTS],
-    depth: usize,
-    kind: u8,
-) -> bool
-    requires { ⌜ depth ≤ mostRequests ⌝ }
-    ensures { λ r. ⌜ r ≡ anyBelow depth (λ i. getD kinds (getD requests i nobody) 0 is kind) ⌝ }
-{
-    let mut some = false;
-    for i in 0..depth {
-        some = some | (tables::kind_at(kinds, tables::request_at(requests, i)) == kind);
-    }
-    some
-}
-
 fn request(state: State, named: [u8; SetUp::RESOURCES], t: u8, r: u8) -> State
     requires { ⌜ (named ≡ names (state .setup)) × CanRequest state t (groupOf (state .setup) r) ⌝ }
     ensures { λ x. ⌜ x ≡ requestEvent (state .setup) t r state ⌝ }
@@ -117,7 +99,7 @@ fn request(state: State, named: [u8; SetUp::RESOURCES], t: u8, r: u8) -> State
     let kind = tables::kind_at(kinds, r);
     let g = tables::number_at(named, r);
     let group = tables::group_at(groups, g as usize);
-    if has_kind(kinds, requests, task.depth, kind) | (group.holder == Task::NOTHING) {
+    if tables::has_kind(kinds, requests, task.depth, kind) | (group.holder == Task::NOTHING) {
         open_request(state, t, r, g)
     } else {
         let queued = queue_request(state, t, r, kind, g);
@@ -172,7 +154,7 @@ fn complete(state: State, named: [u8; SetUp::RESOURCES], t: u8, r: u8) -> State
     let group = tables::group_at(groups, g as usize);
     let queue = group.queue;
     let idle = queue.len == 0;
-    if has_kind(kinds, requests, task.depth, kind) {
+    if tables::has_kind(kinds, requests, task.depth, kind) {
         closed
     } else if kind == SetUp::SHORT {
         complete_short(closed, t, g, idle)

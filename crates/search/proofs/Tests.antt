@@ -1,8 +1,9 @@
 -- A test that computes against the statement that it tests, both ways, and the ruleset `tests`: `simp tests at h` turns
 -- `h : test ≡ true` into statements, and `simp tests t` proves `test ≡ true` from them. Assumes nothing.
-use Prim.Native.Nat.{ℕ, zero, suc, _<_, _≤_}
+use Prim.Native.Nat.{ℕ, zero, suc, _<_, _≤_, min}
 use native.Mathlib.Nat.{not-suc-le-zero, eq-or-lt-of-le, le-of-suc-le-suc}
 use native.Mathlib.Omega.{arith}
+use native.Mathlib.Decide.{ℕ-discrete, decLt}
 use mathlib.Core.Path.{_≡_, refl, sym, _∙_, ap}
 use mathlib.Core.Logic.{_⊎_, ⊎-elim, inl, inr, _↔_}
 use mathlib.Core.Bool.{Bool, true, false, not, _&&_, _||_}
@@ -129,6 +130,39 @@ pub anyBelow-same : (n : ℕ) (ok ok′ : ℕ → Bool) → ((i : ℕ) → i < n
 unfolding anyBelow
 anyBelow-same zero ok ok′ same = refl
 anyBelow-same (suc n) ok ok′ same = rw (anyBelow-same n ok ok′ (λ i l. same i (omega arith)), same n (omega arith))
+
+-- a test that answers the same from k on: k stands for all of those
+steady-any : (ok : ℕ → Bool) (k : ℕ) → ((i : ℕ) → k ≤ i → ok i ≡ ok k) → (n : ℕ) → k < n → anyBelow n ok ≡ anyBelow (suc k) ok
+unfolding anyBelow
+steady-any ok k same zero h = absurd (not-suc-le-zero h)
+steady-any ok k same (suc n) h = elim (ℕ-discrete n k) [
+  | yes e ↦ rw e
+  | no d ↦ rw (steady-any ok k same n (omega arith), same n (omega arith)) (again (anyBelow k ok) (ok k))
+]
+  where
+    again : (a b : Bool) → ((a || b) || b) ≡ (a || b)
+    again true b = refl
+    again false true = refl
+    again false false = refl
+
+pub anyBelow-steady : (n : ℕ) (ok : ℕ → Bool) (k : ℕ) → ((i : ℕ) → k ≤ i → ok i ≡ ok k) → anyBelow (min n (suc k)) ok ≡ anyBelow n ok
+anyBelow-steady n ok k same = elim (decLt k n) [
+  | yes h ↦
+      let e : min n (suc k) ≡ suc k = omega arith in
+      rw e (sym (steady-any ok k same n h))
+  | no d ↦
+      let e : min n (suc k) ≡ n = omega arith in
+      rw e
+]
+
+pub allBelow-not : (n : ℕ) (ok : ℕ → Bool) → allBelow n (λ i. not (ok i)) ≡ not (anyBelow n ok)
+unfolding allBelow anyBelow
+allBelow-not zero ok = refl
+allBelow-not (suc n) ok = rw (allBelow-not n ok) (neither (anyBelow n ok) (ok n))
+  where
+    neither : (a b : Bool) → (not a && not b) ≡ not (a || b)
+    neither true b = refl
+    neither false b = refl
 
 pub ruleset tests =
     (ltb-iff, ltb-false-iff, leb-iff, leb-false-iff, eqb-iff, eqb-false-iff, not-eqb-iff, and-iff, or-none-iff, implies-iff, not-false-iff, allBelow-iff, anyBelow-iff, anyBelow-none-iff)

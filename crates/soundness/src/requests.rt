@@ -4,16 +4,16 @@ use protocol::State;
 use protocol::Task;
 use queue::Queue;
 ghost use mathlib.Core.Path.{_≡_};
-ghost use mathlib.Core.Bool.{true, _&&_};
+ghost use mathlib.Core.Bool.{_&&_};
 ghost use Prim.Native.Nat.{_≤_};
 ghost use lib.Dec.{ltb};
 ghost use lib.ListN.{getD};
-ghost use Rattle.search.specs.Words.{_is_, _isn't_, _implies_};
+ghost use Rattle.search.specs.Words.{_is_, _implies_};
 ghost use Rattle.search.specs.Below.{allBelow};
 ghost use Rattle.search.specs.Table.{table};
 ghost use Rattle.input.specs.Limits.{mostTasks, mostResources};
 ghost use Rattle.setups.specs.Naming.{names};
-ghost use Rattle.protocol.specs.Words.{mostRequests, nobody, noGroup, depth};
+ghost use Rattle.protocol.specs.Words.{mostRequests, nobody, noGroup};
 ghost use Rattle.protocol.specs.Sound.{requestsSound, waitingSound};
 ghost use Rattle.soundness.specs.Opens.{isOnce, isLong, isTogether};
 
@@ -176,25 +176,8 @@ pub fn all_requests(
     ok
 }
 
-// No open request is of kind `kind`.
-fn none_of(
-    kinds: [u8; SetUp::RESOURCES],
-    requests: [u8; Task::REQUESTS],
-    depth: usize,
-    kind: u8,
-) -> bool
-    requires { ⌜ depth ≤ mostRequests ⌝ }
-    ensures { λ r. ⌜ r ≡ allBelow depth (λ i. getD kinds (getD requests i nobody) 0 isn't kind) ⌝ }
-{
-    let mut ok = true;
-    for i in 0..depth {
-        ok = ok & (tables::kind_at(kinds, tables::request_at(requests, i)) != kind);
-    }
-    ok
-}
-
 fn waiting_holds(state: State, groups: [u8; SetUp::RESOURCES], t: u8) -> bool
-    requires { ⌜ (groups ≡ names (state .setup)) × (depth state t ≤ mostRequests) ⌝ }
+    requires { ⌜ groups ≡ names (state .setup) ⌝ }
     ensures { λ r. ⌜ r ≡ waitingSound (state .setup) state t ⌝ }
 {
     let setup = state.setup;
@@ -216,12 +199,12 @@ fn waiting_holds(state: State, groups: [u8; SetUp::RESOURCES], t: u8) -> bool
     let right = ((asked as usize) < setup.resources)
         & ((stand as usize) == (Task::SPINNING as usize) + (kind as usize));
     let stands = queue.place_of(t) < Queue::CAPACITY;
-    let apart = none_of(kinds, requests, depth, kind);
+    let apart = !tables::has_kind(kinds, requests, depth, kind);
     right & stands & apart & ((stand != Task::SUSPENDED) | (depth == 0)) & (depth < Task::REQUESTS)
 }
 
 pub fn all_waiting(state: State, groups: [u8; SetUp::RESOURCES]) -> bool
-    requires { ⌜ (groups ≡ names (state .setup)) × (allBelow mostTasks (requestsSound (state .setup) state) ≡ true) ⌝ }
+    requires { ⌜ groups ≡ names (state .setup) ⌝ }
     ensures { λ r. ⌜ r ≡ allBelow mostTasks (waitingSound (state .setup) state) ⌝ }
 {
     let mut ok = true;

@@ -2,6 +2,7 @@
 mod numbers;
 mod records;
 
+pub use numbers::has_kind;
 pub use numbers::holders_of;
 pub use numbers::kind_at;
 pub use numbers::number_at;
@@ -11,3 +12,4 @@ pub use records::group_at;
 pub use records::no_group;
 pub use records::no_task;
 pub use records::task_at;
+pub use records::with_standing;

@@ -4,10 +4,13 @@ use processors::Processors;
 use protocol::Group;
 use protocol::Task;
 ghost use mathlib.Core.Path.{_≡_};
+ghost use Prim.Native.Nat.{suc, min};
 ghost use lib.ListN.{getD};
+ghost use Rattle.search.specs.Words.{_is_};
+ghost use Rattle.search.specs.Below.{anyBelow};
 ghost use Rattle.search.specs.Table.{table};
 ghost use Rattle.input.specs.Limits.{mostResources};
-ghost use Rattle.protocol.specs.Words.{nobody};
+ghost use Rattle.protocol.specs.Words.{mostRequests, nobody};
 ghost use Rattle.tables.specs.Holders.{holderIn};
 
 // The number at place `i` of a table by task or by resource; nobody past it.
@@ -47,6 +50,33 @@ pub fn kind_at(kinds: [u8; SetUp::RESOURCES], r: u8) -> u8
 {
     let i = r as usize;
     if i < SetUp::RESOURCES { kinds[i] } else { 0 }
+}
+
+// How many places of `depth` open requests to read: each from the limit on reads nothing, so one of those is enough.
+fn read_requests(depth: usize) -> usize
+    ensures { λ r. ⌜ r ≡ min depth (suc mostRequests) ⌝ }
+{
+    if depth <= Task::REQUESTS {
+        depth
+    } else {
+        Task::REQUESTS + 1
+    }
+}
+
+// Some of the first `depth` requests is of kind `kind`. A place past the limit reads nothing, whose kind reads short.
+pub fn has_kind(
+    kinds: [u8; SetUp::RESOURCES],
+    requests: [u8; Task::REQUESTS],
+    depth: usize,
+    kind: u8,
+) -> bool
+    ensures { λ r. ⌜ r ≡ anyBelow depth (λ i. getD kinds (getD requests i nobody) 0 is kind) ⌝ }
+{
+    let mut some = false;
+    for i in 0..read_requests(depth) {
+        some = some | (kind_at(kinds, request_at(requests, i)) == kind);
+    }
+    some
 }
 
 // Who holds each group.

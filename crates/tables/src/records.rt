@@ -8,6 +8,7 @@ use queue::Queue;
 ghost use mathlib.Core.Path.{_≡_};
 ghost use lib.ListN.{getD};
 ghost use Rattle.protocol.specs.Words.{noTask, noGroup};
+ghost use Rattle.protocol.specs.Locks.{standingAs};
 
 pub fn no_task() -> Task
     ensures { λ r. ⌜ r ≡ noTask ⌝ }
@@ -41,6 +42,23 @@ pub fn task_at(tasks: [Task; SetUp::TASKS], t: u8) -> Task
         tasks[i]
     } else {
         no_task()
+    }
+}
+
+// The task with another standing.
+pub fn with_standing(task: Task, standing: Standing) -> Task
+    ensures { λ r. ⌜ r ≡ standingAs standing task ⌝ }
+{
+    let requests = task.requests;
+    let totals = task.totals;
+    Task {
+        standing,
+        deadline: task.deadline,
+        arrived: task.arrived,
+        last: task.last,
+        requests,
+        depth: task.depth,
+        totals,
     }
 }
 

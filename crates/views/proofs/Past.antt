@@ -1,28 +1,15 @@
--- What is read past a limit: a place of no request, and of no waiter. Assumes nothing.
+-- What is read of a queue past its capacity: nobody. Assumes nothing.
 use Prim.Native.Nat.{ℕ, zero, suc, _≤_, _<_, min}
 use native.Mathlib.Nat.{not-suc-le-zero}
 use native.Mathlib.Omega.{arith}
 use native.Mathlib.Decide.{ℕ-discrete, decLt}
 use mathlib.Core.Path.{_≡_, sym, ap, _∙_}
-use mathlib.Core.Bool.{true}
-use mathlib.Core.List.{List}
 use lib.ListN.{length, getD, length-take, List·getD-eq-default}
-use Rattle.search.specs.Words.{_is_}
-use Rattle.search.specs.Below.{anyBelow}
-use Rattle.search.proofs.Tests.{anyBelow-iff}
 use Rattle.queue.specs.Limits.{capacity}
 use Rattle.queue.specs.Waiting.{waiting, waiter}
 use Rattle.queue.specs.declared.Queue.{Queue}
-use Rattle.input.specs.Limits.{short}
 use Rattle.protocol.specs.Words.{nobody}
 use Rattle.protocol.specs.Ranks.{leastOf}
-
--- more requests open than there are places: the first past them reads nobody, whose kind reads short
-pub past-short : (kinds requests : List ℕ) (depth : ℕ) → length kinds ≤ nobody → length requests < depth → anyBelow depth (λ i. getD kinds (getD requests i nobody) 0 is short) ≡ true
-past-short kinds requests depth small deep =
-    let none : getD requests (length requests) nobody ≡ nobody = List·getD-eq-default requests nobody (omega arith) in
-    anyBelow-iff depth (λ i. getD kinds (getD requests i nobody) 0 is short) .1
-    (length requests, deep, rw (none, List·getD-eq-default kinds 0 small))
 
 -- nobody waits past the places
 past-places : (q : Queue) (i : ℕ) → length (q .tasks) ≤ i → waiter q i ≡ nobody

@@ -8,19 +8,18 @@ use protocol::Standing;
 use protocol::State;
 use protocol::Task;
 use queue::Queue;
-use tables::kind_at;
 ghost use mathlib.Core.Path.{_≡_};
 ghost use mathlib.Core.Bool.{true};
 ghost use Prim.Native.Nat.{suc, _+_, _*_, _≤_, min};
 ghost use lib.Dec.{leb};
 ghost use lib.ListN.{getD, set};
 ghost use Rattle.search.specs.Words.{if_then_else_, _is_};
-ghost use Rattle.search.specs.Below.{allBelow, anyBelow};
+ghost use Rattle.search.specs.Below.{allBelow};
 ghost use Rattle.search.specs.Table.{table};
 ghost use Rattle.queue.specs.Limits.{capacity};
 ghost use Rattle.queue.specs.Waiting.{waiter};
-ghost use Rattle.input.specs.Limits.{mostTasks, mostResources, short, long};
-ghost use Rattle.protocol.specs.Words.{nobody, noTask};
+ghost use Rattle.input.specs.Limits.{mostTasks, mostResources, long};
+ghost use Rattle.protocol.specs.Words.{noTask};
 ghost use Rattle.protocol.specs.Ranks.{own, leastOf, modeFor, longHeld};
 ghost use Rattle.views.specs.Bounds.{latest, isBounded, noJobs, jobsWithin, rankAt, jobWith};
 
@@ -134,20 +133,6 @@ fn held_of(state: State) -> [u8; SetUp::TASKS]
     held
 }
 
-// A short request is open among the first `depth`. A place past the limit reads nobody, whose kind reads short.
-fn holds_short(kinds: [u8; SetUp::RESOURCES], requests: [u8; Task::REQUESTS], depth: usize) -> bool
-    ensures { λ r. ⌜ r ≡ anyBelow depth (λ i. getD kinds (getD requests i nobody) 0 is short) ⌝ }
-{
-    if depth > Task::REQUESTS {
-        return true;
-    }
-    let mut some = false;
-    for i in 0..depth {
-        some = some | (kind_at(kinds, requests[i]) == SetUp::SHORT);
-    }
-    some
-}
-
 // `holds`: a short request is open.
 fn mode_for(standing: Standing, holds: bool) -> Mode
     ensures { λ r. ⌜ r ≡ modeFor standing holds ⌝ }
@@ -172,9 +157,10 @@ fn job_with(kinds: [u8; SetUp::RESOURCES], task: Task, rank: u64) -> Job
 {
     let requests = task.requests;
     let standing = task.standing;
+    let holds = tables::has_kind(kinds, requests, task.depth, SetUp::SHORT);
     Job {
         rank,
-        mode: mode_for(standing, holds_short(kinds, requests, task.depth)),
+        mode: mode_for(standing, holds),
     }
 }
 

@@ -5,7 +5,7 @@ use borrow.Author.Tests.{eqb-false}
 use Rattle.setups.specs.Naming.{groupOf}
 use Rattle.protocol.specs.Words.{depth, waiter, request, len}
 use Rattle.protocol.specs.Locks.{openOfKind, closes}
-use Rattle.locking.proofs.Bounded.{closes-bounded, closes-depth, closes-pass}
+use Rattle.locking.proofs.Bounded.{closes-bounded, closes-pass}
 use Rattle.locking.proofs.Branching.{complete-inner, complete-short, complete-long}
 use Rattle.locking.proofs.events.complete.Statement.{statement}
 use Rattle.locking.proofs.events.complete.Tie as tie
@@ -31,12 +31,7 @@ group-at-requires : tie.Need-group-at-requires
 group-at-requires c κs = search needs
 
 has-kind-requires : tie.Need-has-kind-requires
-unfolding depth
-has-kind-requires c κs =
-    let start = c .before .before .before .before .before .before .before .before .before .before .before .before in
-    let task-at = c .before .before .before .before .before .before .task-at in
-    let close-request = c .before .before .before .before .before .before .before .before .close-request in
-    rw (task-at .ensures, close-request .ensures) (omega (arith, start .pre .1 .few, closes-depth (start .args .state) (start .args .t) (start .args .t)))
+has-kind-requires c κs = search needs
 
 complete-short-requires : tie.Need-complete-short-requires
 unfolding groupOf len

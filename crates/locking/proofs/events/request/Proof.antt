@@ -1,5 +1,4 @@
 use mathlib.Core.Path.{sym, _∙_}
-use native.Mathlib.Omega.{arith}
 use borrow.Author.Needs.{needs}
 use Rattle.setups.specs.Naming.{groupOf}
 use Rattle.protocol.specs.Words.{depth, request, holder}
@@ -25,8 +24,7 @@ group-at-requires : tie.Need-group-at-requires
 group-at-requires c κs = search needs
 
 has-kind-requires : tie.Need-has-kind-requires
-unfolding depth
-has-kind-requires c κs = rw (c .before .before .before .before .task-at .ensures) (omega (arith, c .before .before .before .before .before .before .before .before .before .pre .1 .room))
+has-kind-requires c κs = search needs
 
 open-request-requires : tie.Need-open-request-requires
 unfolding groupOf

@@ -3,13 +3,10 @@ use Prim.Native.Nat.{_≤_, _-_}
 use mathlib.Core.Path.{_≡_}
 use native.Mathlib.Omega.{arith}
 use native.Mathlib.Numerals.{add-one}
-use lib.ListN.{length-map}
 use borrow.Author.Needs.{needs}
 use Rattle.search.specs.Below.{allBelow}
 use Rattle.input.specs.Limits.{mostTasks}
-use Rattle.protocol.specs.Words.{depth}
 use Rattle.protocol.specs.Sound.{waitingSound}
-use Rattle.soundness.proofs.Within.{depth-within}
 use Rattle.soundness.proofs.requests.all_waiting.Statement.{statement}
 use Rattle.soundness.proofs.requests.all_waiting.Tie as tie
 
@@ -24,8 +21,7 @@ unfolding allBelow
 loop-holds c = search needs
 
 waiting-holds-requires : tie.Need-waiting-holds-requires Inv-loop μ-loop
-unfolding depth
-waiting-holds-requires c κs = (c .before .before .pre .0, depth-within (c .before .before .args .state) (simp length-map at (c .before .before .good .0 .1 .1 .1 .1 .0 .1 .0 .1)) (c .before .before .pre .1) (c .before .loop .t))
+waiting-holds-requires c κs = c .before .before .pre
 
 add-t : tie.Need-add-t Inv-loop μ-loop
 add-t c = search needs

@@ -1,6 +1,7 @@
 -- Of a job that does not wait the clause says nothing. Assumes nothing.
 use borrow.Author.Needs.{needs}
 use borrow.Author.Tests.{le-leb, lt-leb}
+use Rattle.search.proofs.Tests.{allBelow-not}
 use Rattle.setups.specs.Naming.{groupOf}
 use Rattle.protocol.specs.Words.{spinning, stand, asked, depth, request}
 use Rattle.protocol.specs.Sound.{waitingSound}
@@ -50,10 +51,8 @@ add-right c = search needs
 place-of-requires : tie.Need-place-of-requires
 place-of-requires c κs = search needs
 
-none-of-requires : tie.Need-none-of-requires
-unfolding depth
-none-of-requires c κs =
-    rw (c .before .before .before .before .before .before .before .before .before .before .before .task-at .ensures) (c .before .before .before .before .before .before .before .before .before .before .before .before .before .before .before .pre .1)
+has-kind-requires : tie.Need-has-kind-requires
+has-kind-requires c κs = search needs
 
 returns-2 : tie.Need-returns-2
 unfolding waitingSound stand asked depth request groupOf
@@ -63,13 +62,14 @@ returns-2 c =
       ← c .before .before .before .before .before .before .before .before .before .before .before .before .task-at .ensures,
       ← stand-of .ensures,
       le-leb spinning (stand-of .result) (c .before .before .before .before .before .before .before .before .before .before .if1 .left),
-      c .none-of .ensures,
+      c .has-kind .ensures,
+      ← allBelow-not,
       c .before .place-of .ensures,
       c .before .before .before .before .before .group-at .ensures,
       c .before .before .before .before .before .before .number-at .ensures,
       c .before .before .before .before .before .before .before .before .kind-at .ensures,
       c .before .before .before .before .before .before .before .before .before .asked-of .ensures,
-      c .before .before .before .before .before .before .before .before .before .before .before .before .before .before .before .before .pre .0,
+      c .before .before .before .before .before .before .before .before .before .before .before .before .before .before .before .before .pre,
     )
 
 pub waiting-holds-spec : {M : Type 1} → statement M
@@ -90,5 +90,5 @@ waiting-holds-spec =
     cast-right-4
     add-right
     place-of-requires
-    none-of-requires
+    has-kind-requires
     returns-2)

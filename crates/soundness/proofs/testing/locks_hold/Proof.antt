@@ -10,7 +10,7 @@ all-requests-requires : tie.Need-all-requests-requires
 all-requests-requires c κs = (c .before .before .pre, c .holders-of .ensures)
 
 all-waiting-requires : tie.Need-all-waiting-requires
-all-waiting-requires c κs = (c .before .before .before .before .pre, sym (c .before .all-requests .ensures) ∙ c .if1 .taken)
+all-waiting-requires c κs = c .before .before .before .before .pre
 
 all-groups-requires : tie.Need-all-groups-requires
 all-groups-requires c κs = (c .before .before .before .before .before .pre, sym (c .before .before .all-requests .ensures) ∙ c .before .if1 .taken)

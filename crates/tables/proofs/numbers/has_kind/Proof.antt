@@ -1,6 +1,6 @@
 -- The loop's invariant: `some` says that a request passed is of the kind. Assumes nothing.
 use Prim.Native.Nat.{_≤_, _-_}
-use mathlib.Core.Path.{_≡_}
+use mathlib.Core.Path.{_≡_, _∙_}
 use native.Mathlib.Omega.{arith}
 use native.Mathlib.Numerals.{add-one}
 use lib.ListN.{getD}
@@ -8,14 +8,18 @@ use borrow.Author.Needs.{needs}
 use Rattle.search.specs.Words.{_is_}
 use Rattle.search.specs.Below.{anyBelow}
 use Rattle.protocol.specs.Words.{nobody}
-use Rattle.locking.proofs.events.has_kind.Statement.{statement}
-use Rattle.locking.proofs.events.has_kind.Tie as tie
+use Rattle.tables.proofs.Reading.{kind-read}
+use Rattle.tables.proofs.numbers.has_kind.Statement.{statement}
+use Rattle.tables.proofs.numbers.has_kind.Tie as tie
 
 abbrev Inv-loop : tie.InvT-loop
-Inv-loop kinds requests depth kind some₀ i₀ some i = (i ≤ depth) × (some ≡ anyBelow i (λ i. getD kinds (getD requests i nobody) 0 is kind))
+Inv-loop kinds requests depth kind some₀ i₀ i-end some i = (i ≤ i-end) × (some ≡ anyBelow i (λ i. getD kinds (getD requests i nobody) 0 is kind))
 
 abbrev μ-loop : tie.MeasureT-loop
-μ-loop kinds requests depth kind some₀ i₀ some i = depth - i
+μ-loop kinds requests depth kind some₀ i₀ i-end some i = i-end - i
+
+read-requests-requires : tie.Need-read-requests-requires Inv-loop μ-loop
+read-requests-requires c κs = search needs
 
 loop-holds : tie.Need-loop-holds Inv-loop μ-loop
 unfolding anyBelow
@@ -39,8 +43,9 @@ loop-again c = (search needs, rw (add-one, c .before .before .before .loop .inv 
 
 returns : tie.Need-returns Inv-loop μ-loop
 returns c =
-    let e : c .before .loop .i ≡ c .before .before .args .depth = omega arith in
-    rw e at (c .before .loop .inv .1)
+    let a = c .before .before .before .args in
+    let e : c .before .loop .i ≡ c .before .before .read-requests .result = omega arith in
+    (rw (e, c .before .before .read-requests .ensures) at (c .before .loop .inv .1)) ∙ kind-read (a .kinds) (a .requests) (a .depth) (a .kind) (search needs)
 
 pub has-kind-spec : {M : Type 1} → statement M
 has-kind-spec =
@@ -48,6 +53,7 @@ has-kind-spec =
     (tie.spec
     Inv-loop
     μ-loop
+    read-requests-requires
     loop-holds
     request-at-requires
     kind-at-requires
