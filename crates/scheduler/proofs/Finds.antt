@@ -1,12 +1,13 @@
 -- What the searches of the rules find. Assumes nothing.
 use Prim.Native.Nat.{ℕ, _<_, _≤_}
 use mathlib.Core.Path.{_≡_, refl, sym, _∙_}
-use mathlib.Core.Bool.{Bool, true, false}
+use mathlib.Core.Bool.{Bool, true, false, _&&_}
 use mathlib.Core.List.{List}
 use mathlib.Core.Logic.{_≢_, ⊎-elim}
 use native.Mathlib.Omega.{arith}
 use native.Mathlib.Nat.{le-refl, le-trans, le-of-lt}
 use native.Mathlib.Decide.{decLt}
+use lib.Dec.{ltb}
 use lib.ListN.{length, getD, List·getD-eq-default}
 use borrow.Author.Tests.{lt-ltb, le-ltb, le-leb, ltb-true, ltb-false, leb-true, eq-eqb, eqb-true, eqb-false}
 use Rattle.search.specs.Words.{if_then_else_, _is_}
@@ -76,22 +77,23 @@ lowest-chosen p fits =
 -- ---- and whichever is suggested, one is taken; every unlinked processor is, when it is suggested
 pub taken-chosen : (p : Processors) → p .count ≤ processors → (k : ℕ) → Chosen p (taken p k)
 unfolding taken
-taken-chosen p fits k = go (isFree p k) refl
+taken-chosen p fits k = go (ltb k processors && isFree p k) refl
   where
-    go : (b : Bool) → isFree p k ≡ b → Chosen p (if b then k else lowestFree p)
+    go : (b : Bool) → (ltb k processors && isFree p k) ≡ b → Chosen p (if b then k else lowestFree p)
     go true e =
-        let l = ltb-true k (p .count) (and-left _ _ e) in
-        record { free = λ h. (l, eqb-true _ _ (and-right (isUsed p k) _ e)); none = λ h. absurd (omega arith) }
+        let free = and-right (ltb k processors) _ e in
+        let l = ltb-true k (p .count) (and-left _ _ free) in
+        record { free = λ h. (l, eqb-true _ _ (and-right (isUsed p k) _ free)); none = λ h. absurd (omega arith) }
     go false e = lowest-chosen p fits
 
-pub taken-any : (p : Processors) (k : ℕ) → k < p .count → link p k ≡ nobody → taken p k ≡ k
+pub taken-any : (p : Processors) → p .count ≤ processors → (k : ℕ) → k < p .count → link p k ≡ nobody → taken p k ≡ k
 unfolding taken
-taken-any p k l e = rw (lt-ltb _ _ l, eq-eqb (link p k) nobody e)
+taken-any p fits k l e = rw (lt-ltb k processors (omega arith), lt-ltb k (p .count) l, eq-eqb (link p k) nobody e)
 
--- no processor is suggested: the lowest-numbered
-pub taken-lowest : (p : Processors) (k : ℕ) → p .count ≤ k → taken p k ≡ lowestFree p
+-- no processor is suggested: the lowest-numbered, whatever the processors are
+pub taken-lowest : (p : Processors) (k : ℕ) → processors ≤ k → taken p k ≡ lowestFree p
 unfolding taken
-taken-lowest p k h = rw (le-ltb k (p .count) h)
+taken-lowest p k h = rw (le-ltb k processors h)
 
 -- ---- the processor with the lowest-priority link
 pub lowest-is : (p : Processors) (j : Jobs) → Best (isUsed p) (λ a b. rankOf j (link p a) ≤ rankOf j (link p b)) processors processors (lowestLinked p j)

@@ -47,7 +47,7 @@ arrivingOn p j t k = if ltb k processors then placeOn p k t else displacing p j 
 
 -- the processor taken where k is suggested: k, if it is unlinked; else the lowest-numbered such processor
 unfoldable pub taken : Processors → ℕ → ℕ
-taken p k = if isFree p k then k else lowestFree p
+taken p k = if ltb k processors && isFree p k then k else lowestFree p
 
 -- t arrives or resumes, and processor k is suggested; `nobody` suggests none, which is the choice of document 01
 unfoldable pub arriving : Processors → Jobs → ℕ → ℕ → Processors

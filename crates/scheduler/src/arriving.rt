@@ -109,7 +109,8 @@ fn lowest_free(p: Processors) -> usize
 fn take(p: Processors, k: usize) -> usize
     ensures { λ r. ⌜ r ≡ taken p k ⌝ }
 {
-    if is_free(p, k) { k } else { lowest_free(p) }
+    let is_taken = (k < Processors::LIMIT) & is_free(p, k);
+    if is_taken { k } else { lowest_free(p) }
 }
 
 // The job of `t` arrives or resumes, and `jobs` has it so: on processor `k` if it is unlinked, else on the lowest-numbered
