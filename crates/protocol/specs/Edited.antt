@@ -1,5 +1,5 @@
--- What an accepted event does to tasks and groups, whatever the scheduler does: its edits without the scheduler's moves. The
--- law `step-does` in proofs/Edited ties it to the rules of 'Events'. c is the set-up of s.
+-- What an accepted event does to tasks and groups, whatever the scheduler does: its edits without the scheduler's
+-- moves. The law `step-does` in proofs/Edited ties it to the rules of 'Events'. c is the set-up of s.
 use Prim.Native.Nat.{ℕ}
 use mathlib.Core.Bool.{_||_}
 use Rattle.search.specs.Words.{if_then_else_, _is_}

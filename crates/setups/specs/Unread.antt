@@ -1,5 +1,5 @@
--- Document 01, 'Set-up': places past a count are not read. What stands there changes neither the refusal nor a group's name,
--- of any set-up.
+-- Document 01, 'Set-up': places past a count are not read. What stands there changes neither the refusal nor a group's
+-- name, of any set-up.
 use mathlib.Core.Path.{_≡_}
 use Rattle.setups.specs.Refusals.{setUpRefusal}
 use Rattle.setups.specs.Naming.{names}

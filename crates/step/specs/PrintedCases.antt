@@ -1,16 +1,15 @@
--- The printed case of document 01, from the bytes of its file to its text, computed: so the theorems of accepted files speak of
--- something, and this text is what they say.
+-- The printed case of document 01, from the bytes of its file to its text, computed: so the theorems of accepted files
+-- speak of something, and this text is what they say.
 use Prim.Native.Nat.{ℕ}
 use mathlib.Core.Path.{_≡_, refl}
 use mathlib.Core.List.{List, [], _∷_, _++_}
 use lib.ListN.{replicate}
-use Rattle.search.specs.Words.{_is_}
 use Rattle.search.specs.Below.{allBelow, anyBelow}
 use Rattle.search.specs.First.{first}
 use Rattle.search.specs.Best.{best, better}
 use Rattle.search.specs.Table.{table}
 use Rattle.queue.specs.Waiting.{waiting, waiter as queued, empty, appended, movedUp, withoutFirst, placeOf, isClear as tidyAt, isTidy}
-use Rattle.processors.specs.Words.{runs, rankOf, modeOf, linkOf, runOf, noneLinked}
+use Rattle.processors.specs.Words.{rankOf, modeOf, linkOf, runOf, noneLinked}
 use Rattle.scheduler.specs.Arriving.{lowestFree, lowestLinked, displacing, arrivingOn, taken, arriving as linking}
 use Rattle.scheduler.specs.Leaving.{becomingPreemptable, nextTask, filling, refilling, leavingFrom, leaving, givingWay}
 use Rattle.placement.specs.PlacedTest.{linkHolds, runHolds, processorHolds, linksHigher, taskHolds, isPlaced}
@@ -18,19 +17,14 @@ use Rattle.setups.specs.Refusals.{setUpRows, setUpRefusal}
 use Rattle.setups.specs.Naming.{joinedBy, namesAfter, names, groupOf}
 use Rattle.setups.specs.Clearing.{below, cleared, emptyFrom, isClear}
 use Rattle.input.specs.Kinds.{fieldsOf}
-use Rattle.input.specs.declared.SetUp.{SetUp}
-use Rattle.input.specs.declared.Event.{Event}
-use Rattle.protocol.specs.Words.{nobody, task, stand, asked, deadline, depth, request, holder, len, waiter}
+use Rattle.protocol.specs.Words.{task, stand, asked, deadline, depth, request, holder, len, waiter}
 use Rattle.protocol.specs.Ranks.{own, leastOf, longHeld, effective, shortOpen, jobs}
 use Rattle.protocol.specs.Situations.{situation}
 use Rattle.protocol.specs.Sound.{clockSound, timesSound, requestsSound, waitingSound, groupSound, emptySound, sound}
 use Rattle.protocol.specs.Refusals.{misplaced, eventRows, judge}
 use Rattle.protocol.specs.Locks.{openOfKind, opens, queues, closes, frees, calls, passes}
-use Rattle.protocol.specs.Events.{arrives, leaves, softens, givesWay, arriveEvent, finishEvent, requestEvent, completeEvent, charged, act, stepBy, step, fresh, begin}
-use Rattle.protocol.specs.declared.State.{State}
-use Rattle.protocol.specs.declared.Reply.{Reply}
+use Rattle.protocol.specs.Events.{arrives, leaves, softens, givesWay, arriveEvent, finishEvent, requestEvent, completeEvent, charged, act, stepBy, step, fresh, begin, runBy, run}
 use Rattle.input.specs.Layout.{startIn, periodsIn, kindsIn, sideIn, setUpIn, eventIn, eventCount}
-use Rattle.protocol.specs.Events.{runBy, run}
 use Rattle.blocks.specs.Check.{sums, isChecked}
 use Rattle.blocks.specs.Verdicts.{isBlank, isSetUpFilled, isEventFilled, blockRows, verdict}
 use Rattle.texts.specs.Texts.{codes, digits, eachText}
@@ -56,8 +50,22 @@ eventBytes =
     ∷ []
 
 abbrev pub printedBytes : List ℕ
-printedBytes = setUpBytes ++ replicate 490 0 ++ (93 ∷ 5 ∷ 247 ∷ 65 ∷ eventBytes) ++ replicate 456 0 ++ (48 ∷ 16 ∷ 241 ∷ 141 ∷ [])
+printedBytes =
+    setUpBytes ++ replicate 490 0 ++ (93 ∷ 5 ∷ 247 ∷ 65 ∷ [])
+    ++ eventBytes ++ replicate 456 0 ++ (48 ∷ 16 ∷ 241 ∷ 141 ∷ [])
 
-pub printed-case : fileText (blocksOf printedBytes) ≡ codes "processors 2 tasks 3 start 65530\n1 0 0/0 -/-\n2 0 0/0 1/1\n3 0 0/0 1/1\n4 0 0/0 2/1\n5 0 0/0 2/1\n6 0 0/0 2/2\n7 19 0/0 2/2\n8 0 0/0 1/1\ntask 0 13 5 0 0 0\ntask 1 13 0 0 3 0\ntask 2 3 0 7 0 0\n"
+pub printed-case : fileText (blocksOf printedBytes)
+    ≡ codes "processors 2 tasks 3 start 65530\n"
+    ++ codes "1 0 0/0 -/-\n"
+    ++ codes "2 0 0/0 1/1\n"
+    ++ codes "3 0 0/0 1/1\n"
+    ++ codes "4 0 0/0 2/1\n"
+    ++ codes "5 0 0/0 2/1\n"
+    ++ codes "6 0 0/0 2/2\n"
+    ++ codes "7 19 0/0 2/2\n"
+    ++ codes "8 0 0/0 1/1\n"
+    ++ codes "task 0 13 5 0 0 0\n"
+    ++ codes "task 1 13 0 0 3 0\n"
+    ++ codes "task 2 3 0 7 0 0\n"
 unfolding allBelow anyBelow first best better table waiting queued empty appended movedUp withoutFirst placeOf tidyAt isTidy rankOf modeOf linkOf runOf noneLinked lowestFree lowestLinked displacing arrivingOn taken linking becomingPreemptable nextTask filling refilling leavingFrom leaving givingWay linkHolds runHolds processorHolds linksHigher taskHolds isPlaced setUpRows setUpRefusal joinedBy namesAfter names groupOf below cleared emptyFrom isClear fieldsOf stand asked deadline depth request holder len waiter own leastOf longHeld effective shortOpen jobs situation clockSound timesSound requestsSound waitingSound groupSound emptySound sound misplaced eventRows judge openOfKind opens queues closes frees calls passes arrives leaves softens givesWay arriveEvent finishEvent requestEvent completeEvent charged act stepBy step fresh begin startIn periodsIn kindsIn sideIn setUpIn eventIn eventCount runBy run sums isChecked isBlank isSetUpFilled isEventFilled blockRows verdict digits eachText firstText taskText taskLineText blockText setUpText blocksOf eventsFrom answerText endText fileText
 printed-case = refl

@@ -1,5 +1,5 @@
--- The program over a whole file, and the theorems about it: what it prints is what document 01 says, and demand 3 holds at
--- every line. `proofs/Files` proves them.
+-- The program over a whole file, and the theorems about it: what it prints is what document 01 says, and demand 3 holds
+-- at every line. `proofs/Files` proves them.
 use Prim.Native.Nat.{ℕ, suc, _<_}
 use mathlib.Core.Path.{_≡_}
 use mathlib.Core.List.{List, [], _∷_, _++_}
@@ -31,7 +31,7 @@ pub record Begins (blocks : List (List ℕ)) : Type 0 where
   pub opens : refusalOf (firstBlock blocks) 0 ≡ 0
   pub setup : setUpRefusal (setUpOf blocks) ≡ 0
 
--- demand 3 at every line, before the first of some events and after each; and each task's totals sum to the ticks pending
+-- demand 3 at every line, before the first of some events and after each; and the totals sum to the ticks pending
 abbrev pub DemandsHold : SetUp → List Event → Type 0
 DemandsHold c es = (n : ℕ) → Demand3 c (plain (take n es)) × TotalsSum c (plain (take n es))
 

@@ -1,4 +1,4 @@
--- Lines by call: each into a lent buffer, with its number and its length; and an event's line out of what was written of it.
+-- Lines by call: each into a lent buffer, with its number and its length; and an event's line out of what `play` wrote.
 use Prim.Native.Nat.{ℕ, _+_, _*_, min}
 use mathlib.Core.Path.{_≡_}
 use mathlib.Core.List.{List, [], _++_}
@@ -24,7 +24,8 @@ placesText line = eachText (λ k. placeText (byte line (2 * k + 1)) (byte line (
 
 -- an event: its number, the answer, and per processor linked/running task
 unfoldable pub eventText : ℕ → ℕ → List ℕ → List ℕ
-eventText number count line = decimal number ++ numbered " " (byte line 0) ++ placesText line (min count processors) ++ codes "\n"
+eventText number count line =
+    decimal number ++ numbered " " (byte line 0) ++ placesText line (min count processors) ++ codes "\n"
 
 -- no place and no total is longer
 abbrev pub placeWidth : ℕ
