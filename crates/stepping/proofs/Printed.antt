@@ -51,13 +51,18 @@ play-all s part out few room =
     let all : min (eventCount part) (length out / lineSize) ≡ eventCount part = omega arith in
     rw all
 
+pub play-count : (s : State) (part out : List ℕ) {done : Played} {filled : List ℕ} → eventCount part ≤ mostEvents → lineSize * mostEvents ≤ length out
+    → (done, filled) ≡ played s part out → done .count ≡ eventCount part
+play-count s part out few room made = ap (λ (y : Played × List ℕ). y .0 .count) (made ∙ play-all s part out few room)
+
 -- the lines of what was written of each event, in a buffer with room for all, are a page
-pub page-events : (x : Session) (part buffer out : List ℕ) {done : Played} {filled : List ℕ} {count events len : ℕ} {after : List ℕ}
+pub page-events : (x : Session) (part buffer out : List ℕ) {done : Played} {filled : List ℕ} {events len : ℕ} {after : List ℕ}
     → eventCount part ≤ mostEvents → lineSize * mostEvents ≤ length buffer → pageLimit ≤ length out
-    → (done, filled) ≡ played (x .state) part buffer → count ≡ eventCount part → events ≡ (x .events + count) % wide
-    → Put out 0 (eventsText (λ n. take lineSize (drop (lineSize * n) filled)) (x .state .setup .processors) (x .events) count) len after → len ≤ lineLimit * count
+    → (done, filled) ≡ played (x .state) part buffer → events ≡ (x .events + done .count) % wide
+    → Put out 0 (eventsText (λ n. take lineSize (drop (lineSize * n) filled)) (x .state .setup .processors) (x .events) (done .count)) len after → len ≤ lineLimit * done .count
     → Printed (eventPage x part) out (record { session = record { index = x .index + 1; events = events; over = false; state = done .state }; number = 0; len = len }) after
-page-events x part buffer out {done} {filled} {count} {events} {len} {after} few fits room made counted numbered put short =
+page-events x part buffer out {done} {filled} {events} {len} {after} few fits room made numbered put short =
+    let counted = play-count (x .state) part buffer few fits made in
     let all = made ∙ play-all (x .state) part buffer few fits in
     let kept : done .state ≡ playedTo (x .state) part (eventCount part) = ap (λ (y : Played × List ℕ). y .0 .state) all in
     let bytes : filled ≡ writtenTo (x .state) part buffer (eventCount part) = ap (λ (y : Played × List ℕ). y .1) all in

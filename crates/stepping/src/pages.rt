@@ -81,7 +81,7 @@ fn event_page(x: Session, part: &[u8], out: &mut [u8]) -> Page
     let mut written = [0u8; Block::MOST_EVENTS as usize * Reply::LINE];
     let played = locking::play(before, part, &mut written);
     let state = played.state;
-    let count = input::event_count(part);
+    let count = played.count;
     let len = put_events(out, &written, count, setup.processors, x.events);
     let session = Session {
         index: x.index + 1,
