@@ -2,7 +2,8 @@
 """How much has to be believed: the lines of the definitions under specs/, imports, comments and blank lines apart.
 
     python3 tests/believed.py          each part with its files, and the sums
-    python3 tests/believed.py check    whether README.md and docs/TOUR.md give these sums, and every file is in a part
+    python3 tests/believed.py check    whether README.md and docs/TOUR.md give these sums, every file is in a part, and
+                                       the believed ones rest on each other alone
 
 Whoever believes the rules and the bytes and texts knows what the program prints of a file: the theorems say so. The
 statements are what the theorems promise; the calls are what a caller of the library must read besides. Private
@@ -37,6 +38,7 @@ PARTS = {
         'queue': 'Tidy',
         'scheduler': 'Placed',
         'setups': 'Accepted Groups Unread Numbers',
+        'soundness': 'Parts',
         'protocol': 'Numbers Demands Cases Impostors',
         'blocks': 'OneByte Numbers',
         'texts': 'Values',
@@ -46,6 +48,7 @@ PARTS = {
     },
     'calls': {
         'views': 'Bounds',
+        'tables': 'Holders',
         'states': 'Writing',
         'locking': 'Playing',
         'texts': 'Buffers',
@@ -56,12 +59,13 @@ PARTS = {
         'scheduler': 'Changes',
         'setups': 'Sized',
         'protocol': 'Edited',
-        'tables': 'Holders',
-        'soundness': 'Opens Parts',
+        'soundness': 'Opens',
         'locking': 'Acting Steps',
     },
 }
+BELIEVED = ('rules', 'bytes and texts')
 NO_DEFINITION = re.compile(r'(use|pub mod|unfolding|infix[lr]?) ')
+IMPORT = re.compile(r'^use Rattle·(\w+?)(?:·specs)?[.]specs[.](\w+)[.]', re.MULTILINE)
 
 
 def lines_of(path):
@@ -74,6 +78,14 @@ def files_of(part):
     for crate, names in PARTS[part].items():
         for name in names.split():
             yield f'crates/{crate}/specs/{name}.antt'
+
+
+def rests_on(name):
+    """The files of definitions that a file of definitions imports from."""
+    text = (ROOT / name).read_text(encoding='utf-8')
+    for crate, module in IMPORT.findall(text):
+        if module != 'declared':
+            yield f'crates/{crate}/specs/{module}.antt'
 
 
 def total(part):
@@ -92,9 +104,11 @@ def check():
     there = [str(path.relative_to(ROOT)) for path in ROOT.glob('crates/*/specs/*.antt') if path.name != 'Lib.antt']
     faults = [f'{name} is in no part' for name in sorted(set(there) - set(listed))]
     faults += [f'{name} is not there' for name in sorted(set(listed) - set(there))]
+    believed = {name for part in BELIEVED for name in files_of(part)}
+    faults += [f'{name} rests on {other}' for name in sorted(believed) for other in rests_on(name) if other not in believed]
     for page in ('README.md', 'docs/TOUR.md'):
         text = ' '.join((ROOT / page).read_text(encoding='utf-8').split())
-        for part in ('rules', 'bytes and texts'):
+        for part in BELIEVED:
             if f'{total(part)} lines of {part}' not in text:
                 faults.append(f'{page} does not say {total(part)} lines of {part}')
     print('\n'.join(faults) if faults else 'the figures are right')

@@ -6,8 +6,7 @@ use native.Mathlib.Omega.{arith}
 use Rattle.search.specs.Table.{table}
 use Rattle.search.proofs.Tables.{table-at, table-front}
 use Rattle.input.specs.Layout.{eventIn, eventCount, eventsIn}
-use Rattle.protocol.specs.Events.{runBy, step, run}
-use Rattle.protocol.specs.Demands.{replyAt}
+use Rattle.protocol.specs.Events.{runBy, step, run, replyAt}
 use Rattle.protocol.specs.declared.State.{State}
 use Rattle.protocol.proofs.Step.{run-join}
 use Rattle.locking.specs.Playing.{playedTo, replyTo}

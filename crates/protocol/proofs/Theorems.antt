@@ -12,8 +12,8 @@ use Rattle.setups.specs.Clearing.{cleared, emptyFrom, isClear}
 use Rattle.input.specs.declared.SetUp.{SetUp}
 use Rattle.input.specs.declared.Event.{Event}
 use Rattle.protocol.specs.Words.{nobody, noTask, noGroup}
-use Rattle.protocol.specs.Events.{Move, fresh, begin}
-use Rattle.protocol.specs.Demands.{Given, after, LinksHighest, ShortQueue, AlwaysSound, AlwaysDemand3, AlwaysCharges, AlwaysSums, RefusedLeftOut, RefusedKeeps, IsEmpty, RefusedIsEmpty}
+use Rattle.protocol.specs.Events.{Move, fresh, begin, after}
+use Rattle.protocol.specs.Demands.{Given, LinksHighest, ShortQueue, AlwaysSound, AlwaysDemand3, AlwaysCharges, AlwaysSums, RefusedLeftOut, RefusedKeeps, IsEmpty, RefusedIsEmpty}
 use Rattle.protocol.proofs.Statements.{Sound}
 use Rattle.protocol.proofs.Begin.{begin-sound}
 use Rattle.protocol.proofs.Reflect.{test-of-sound}

@@ -22,8 +22,8 @@ use Rattle.protocol.specs.Situations.{situation, totalOf}
 use Rattle.protocol.specs.Refusals.{stepOf, judge}
 use Rattle.protocol.specs.Locks.{arriving, departing, onTask}
 use Rattle.protocol.specs.Edited.{edited}
-use Rattle.protocol.specs.Events.{Prefers, counting, charged, fresh, begin, Move, moved, stepBy, runBy}
-use Rattle.protocol.specs.Demands.{Given, after, accepts, pendingTicks, Charges}
+use Rattle.protocol.specs.Events.{Prefers, counting, charged, fresh, begin, Move, moved, stepBy, runBy, after}
+use Rattle.protocol.specs.Demands.{Given, accepts, pendingTicks, Charges}
 use Rattle.protocol.specs.declared.Task.{Task}
 use Rattle.protocol.specs.declared.State.{State}
 use Rattle.protocol.proofs.Statements.{Sound}

@@ -27,9 +27,9 @@ use Rattle.protocol.specs.Situations.{situation}
 use Rattle.protocol.specs.Sound.{clockSound, timesSound, requestsSound, waitingSound, groupSound, emptySound, sound}
 use Rattle.protocol.specs.Refusals.{misplaced, eventRows, judge}
 use Rattle.protocol.specs.Locks.{openOfKind, opens, queues, closes, frees, calls, passes}
-use Rattle.protocol.specs.Events.{cold, arrives, leaves, softens, givesWay, arriveEvent, finishEvent, requestEvent, completeEvent, charged, act, Move, stepBy, plain, runBy, step, run, fresh, begin}
+use Rattle.protocol.specs.Events.{cold, arrives, leaves, softens, givesWay, arriveEvent, finishEvent, requestEvent, completeEvent, charged, act, Move, stepBy, plain, runBy, step, run, fresh, begin, after}
 use Rattle.protocol.specs.Cases.{given, event}
-use Rattle.protocol.specs.Demands.{Given, after, isRunnable, Waiting, WaitsFor, Before, handsOver, completions, ShortQueue}
+use Rattle.protocol.specs.Demands.{Given, isRunnable, Waiting, WaitsFor, Before, handsOver, completions, ShortQueue}
 use Rattle.protocol.specs.declared.State.{State}
 use Rattle.protocol.proofs.Begin.{begin-sound}
 use Rattle.protocol.proofs.Step.{run-sound-by}

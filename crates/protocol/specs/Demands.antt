@@ -3,11 +3,11 @@
 -- what is promised.
 use Prim.Native.Nat.{ℕ, zero, suc, _+_, _-_, _<_, _≤_, min}
 use mathlib.Core.Path.{_≡_}
-use mathlib.Core.Bool.{Bool, true, false, not, _&&_, _||_}
+use mathlib.Core.Bool.{Bool, true, false, not, _&&_}
 use mathlib.Core.List.{List, [], _∷_, _++_}
 use mathlib.Core.Logic.{_≢_, _⊎_, _↔_}
 use lib.Dec.{ltb}
-use lib.ListN.{getD, set, take}
+use lib.ListN.{getD, set}
 use Rattle.search.specs.Words.{if_then_else_, _is_, _isn't_}
 use Rattle.search.specs.Below.{howMany}
 use Rattle.processors.specs.Limits.{processors}
@@ -28,25 +28,14 @@ use Rattle.protocol.specs.Ranks.{shortOpen, effective, jobs}
 use Rattle.protocol.specs.Situations.{situation, totalOf}
 use Rattle.protocol.specs.Refusals.{stepOf, judge}
 use Rattle.protocol.specs.Locks.{openOfKind, closes}
-use Rattle.protocol.specs.Events.{Prefers, Move, moved, stepBy, runBy, step, run, begin}
+use Rattle.protocol.specs.Events.{Prefers, Move, moved, stepBy, runBy, begin, after}
 use Rattle.protocol.specs.declared.State.{State}
-use Rattle.protocol.specs.declared.Reply.{Reply}
 
 -- ---- every run: an accepted set-up, and any events, refused ones among them, each with any suggestion of a processor
 -- where someone arrives or resumes. (A start has four bytes.)
 pub record Given (c : SetUp) : Type 0 where
   pub accepted : setUpRefusal c ≡ 0
   pub start : c .start ≤ lastClock
-
-abbrev pub after : SetUp → List Move → State
-after c ms = runBy (begin c .state) ms
-
--- of events alone: the answer to event n of a list, in the state after those before it
-abbrev pub noEvent : Event
-noEvent = record { kind = 0; task = 0; resource = 0; tick = 0 }
-
-abbrev pub replyAt : State → List Event → ℕ → Reply
-replyAt s es n = step (run s (take n es)) (getD es n noEvent)
 
 -- e is accepted in s, and is of a kind
 abbrev pub accepts : State → Event → ℕ → Bool

@@ -2,7 +2,7 @@
 use Prim.Native.Nat.{ℕ, _+_}
 use mathlib.Core.Bool.{_||_}
 use mathlib.Core.List.{List, [], _∷_, map}
-use lib.ListN.{getD, set, replicate}
+use lib.ListN.{getD, set, take, replicate}
 use Rattle.search.specs.Words.{if_then_else_, _is_, _isn't_}
 use Rattle.search.specs.Table.{table}
 use Rattle.processors.specs.Words.{noneLinked}
@@ -170,3 +170,13 @@ unfoldable pub begin : SetUp → Reply
 begin c =
     if setUpRefusal c is 0 then record { answer = 0; state = fresh (cleared c) }
     else record { answer = setUpRefusal c; state = fresh noSetUp }
+
+-- ---- from a set-up on: the state after some moves; of events alone, the answer to the n-th, after those before it
+abbrev pub after : SetUp → List Move → State
+after c ms = runBy (begin c .state) ms
+
+abbrev pub noEvent : Event
+noEvent = record { kind = 0; task = 0; resource = 0; tick = 0 }
+
+abbrev pub replyAt : State → List Event → ℕ → Reply
+replyAt s es n = step (run s (take n es)) (getD es n noEvent)

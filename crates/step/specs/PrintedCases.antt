@@ -1,9 +1,10 @@
 -- The printed case of document 01, from the bytes of its file to its text, computed: so the theorems of accepted files
 -- speak of something, and this text is what they say.
-use Prim.Native.Nat.{ℕ}
+use Prim.Native.Nat.{ℕ, zero, suc, _<_}
 use mathlib.Core.Path.{_≡_, refl}
 use mathlib.Core.List.{List, [], _∷_, _++_}
-use lib.ListN.{replicate}
+use native.Mathlib.Omega.{arith}
+use lib.ListN.{length, getD, replicate}
 use Rattle.search.specs.Below.{allBelow, anyBelow}
 use Rattle.search.specs.First.{first}
 use Rattle.search.specs.Best.{best, better}
@@ -29,7 +30,8 @@ use Rattle.blocks.specs.Check.{sums, isChecked}
 use Rattle.blocks.specs.Verdicts.{isBlank, isSetUpFilled, isEventFilled, blockRows, verdict}
 use Rattle.texts.specs.Texts.{codes, digits, eachText}
 use Rattle.texts.specs.Lines.{firstText, taskText, taskLineText, blockText, setUpText}
-use Rattle.stepping.specs.Files.{blocksOf, eventsFrom, answerText, endText, fileText}
+use Rattle.stepping.specs.Files.{blocksOf, refusalOf, eventsFrom, answerText, endText, firstBlock, setUpOf, fileText}
+use Rattle.stepping.specs.Program.{Accepted}
 
 -- the number, the kind, the count; two processors, three tasks, one resource, no pair; the start, and the periods
 abbrev setUpBytes : List ℕ
@@ -69,3 +71,22 @@ pub printed-case : fileText (blocksOf printedBytes)
     ++ codes "task 2 3 0 7 0 0\n"
 unfolding allBelow anyBelow first best better table waiting queued empty appended movedUp withoutFirst placeOf tidyAt isTidy rankOf modeOf linkOf runOf noneLinked lowestFree lowestLinked displacing arrivingOn taken linking becomingPreemptable nextTask filling refilling leavingFrom leaving givingWay linkHolds runHolds processorHolds linksHigher taskHolds isPlaced setUpRows setUpRefusal joinedBy namesAfter names groupOf below cleared emptyFrom isClear fieldsOf stand asked deadline depth request holder len waiter own leastOf longHeld effective shortOpen jobs situation clockSound timesSound requestsSound waitingSound groupSound emptySound sound misplaced eventRows judge openOfKind opens queues closes frees calls passes arrives leaves softens givesWay arriveEvent finishEvent requestEvent completeEvent charged act stepBy step fresh begin startIn periodsIn kindsIn sideIn setUpIn eventIn eventCount runBy run sums isChecked isBlank isSetUpFilled isEventFilled blockRows verdict digits eachText firstText taskText taskLineText blockText setUpText blocksOf eventsFrom answerText endText fileText
 printed-case = refl
+
+-- its two blocks and its set-up are accepted, so the theorem of accepted files speaks of it
+pub record Computed : Type 0 where
+  pub two : length (blocksOf printedBytes) ≡ 2
+  pub opens : refusalOf (firstBlock (blocksOf printedBytes)) 0 ≡ 0
+  pub setup : setUpRefusal (setUpOf (blocksOf printedBytes)) ≡ 0
+  pub second : refusalOf (getD (blocksOf printedBytes) 1 []) 1 ≡ 0
+
+pub computed : Computed
+unfolding allBelow anyBelow first best better table waiting queued empty appended movedUp withoutFirst placeOf tidyAt isTidy rankOf modeOf linkOf runOf noneLinked lowestFree lowestLinked displacing arrivingOn taken linking becomingPreemptable nextTask filling refilling leavingFrom leaving givingWay linkHolds runHolds processorHolds linksHigher taskHolds isPlaced setUpRows setUpRefusal joinedBy namesAfter names groupOf below cleared emptyFrom isClear fieldsOf stand asked deadline depth request holder len waiter own leastOf longHeld effective shortOpen jobs situation clockSound timesSound requestsSound waitingSound groupSound emptySound sound misplaced eventRows judge openOfKind opens queues closes frees calls passes arrives leaves softens givesWay arriveEvent finishEvent requestEvent completeEvent charged act stepBy step fresh begin startIn periodsIn kindsIn sideIn setUpIn eventIn eventCount runBy run sums isChecked isBlank isSetUpFilled isEventFilled blockRows verdict digits eachText firstText taskText taskLineText blockText setUpText blocksOf eventsFrom answerText endText fileText
+computed = record { two = refl; opens = refl; setup = refl; second = refl }
+
+follows : (i : ℕ) → i < length (blocksOf printedBytes) → refusalOf (getD (blocksOf printedBytes) i []) i ≡ 0
+follows zero l = computed .opens
+follows (suc zero) l = computed .second
+follows (suc (suc i)) l = absurd (omega (arith, computed .two))
+
+pub printed-accepted : Accepted (blocksOf printedBytes)
+printed-accepted = record { begins = record { opens = computed .opens; setup = computed .setup }; follow = follows }

@@ -12,8 +12,7 @@ use Rattle.processors.specs.Words.{link, runs}
 use Rattle.processors.specs.declared.Processors.{Processors}
 use Rattle.input.specs.Layout.{byte, eventIn, eventCount, eventsIn}
 use Rattle.input.specs.declared.Event.{Event}
-use Rattle.protocol.specs.Events.{run}
-use Rattle.protocol.specs.Demands.{replyAt}
+use Rattle.protocol.specs.Events.{run, replyAt}
 use Rattle.protocol.specs.declared.State.{State}
 use Rattle.protocol.specs.declared.Reply.{Reply}
 use Rattle.states.specs.Writing.{places, lineOf}

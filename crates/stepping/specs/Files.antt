@@ -1,6 +1,6 @@
 -- Document 01, 'Printing', of a whole file: all the text, and the state at its end, by the rules alone.
 use Prim.Native.Nat.{ℕ, suc, _+_, _-_, _*_, _/_}
-use mathlib.Core.Bool.{Bool, _&&_}
+use mathlib.Core.Bool.{_&&_}
 use mathlib.Core.List.{List, [], _∷_, _++_}
 use lib.ListN.{length, getD, take, drop}
 use Rattle.search.specs.Words.{if_then_else_, _is_}
@@ -11,8 +11,7 @@ use Rattle.input.specs.declared.SetUp.{SetUp}
 use Rattle.input.specs.declared.Event.{Event}
 use Rattle.setups.specs.Refusals.{setUpRefusal}
 use Rattle.protocol.specs.Words.{task}
-use Rattle.protocol.specs.Events.{plain, begin, fresh, noSetUp}
-use Rattle.protocol.specs.Demands.{after, replyAt}
+use Rattle.protocol.specs.Events.{plain, begin, fresh, noSetUp, after, replyAt}
 use Rattle.protocol.specs.declared.State.{State}
 use Rattle.protocol.specs.declared.Reply.{Reply}
 use Rattle.blocks.specs.Sizes.{blockSize}

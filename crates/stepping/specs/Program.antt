@@ -7,8 +7,8 @@ use lib.ListN.{length, getD, take}
 use Rattle.input.specs.declared.SetUp.{SetUp}
 use Rattle.input.specs.declared.Event.{Event}
 use Rattle.setups.specs.Refusals.{setUpRefusal}
-use Rattle.protocol.specs.Events.{plain, begin}
-use Rattle.protocol.specs.Demands.{after, Demand3, TotalsSum}
+use Rattle.protocol.specs.Events.{plain, begin, after}
+use Rattle.protocol.specs.Demands.{Demand3, TotalsSum}
 use Rattle.blocks.specs.OneByte.{AreBytes}
 use Rattle.texts.specs.Lines.{firstText}
 use Rattle.stepping.specs.Pages.{beginning, nextPage}
