@@ -78,13 +78,7 @@ fn tell_verdict(call: u64, number: u16, index: u64) {
 fn tell_answers(call: u64, state: State)
     requires { ⌜ call < 1000 ⌝ }
 {
-    let e = Event {
-        kind: 0,
-        task: 0,
-        resource: 0,
-        tick: 0,
-    };
-    tell(call, locking::judge(state, e));
+    tell(call, locking::judge(state, Event::NONE));
     let reply = locking::step(state, e);
     tell(call + 1, reply.answer);
     let mut written = [0u8; 34];

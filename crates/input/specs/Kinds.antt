@@ -3,6 +3,7 @@ use Prim.Native.Nat.{ℕ}
 use mathlib.Core.Bool.{true, false}
 use mathlib.Core.List.{[], _∷_}
 use lib.ListN.{getD}
+use Rattle.input.specs.declared.Event.{Event}
 use Rattle.input.specs.declared.Fields.{Fields}
 
 abbrev pub arrival : ℕ
@@ -19,6 +20,10 @@ completion = 4
 
 abbrev pub passing : ℕ
 passing = 5
+
+-- an event of no kind stands where there is none
+abbrev pub noEvent : Event
+noEvent = record { kind = 0; task = 0; resource = 0; tick = 0 }
 
 abbrev pub neither : Fields
 neither = record { task = false; resource = false }

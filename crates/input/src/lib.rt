@@ -68,6 +68,13 @@ impl Event {
     pub const COMPLETION: u8 = 4;
 
     pub const PASSING: u8 = 5;
+    // What stands where there is no event.
+    pub const NONE: Event = Event {
+        kind: 0,
+        task: 0,
+        resource: 0,
+        tick: 0,
+    };
     // How many bytes an event takes in a block: kind, task, resource, reserve, tick.
     pub const SIZE: usize = 6;
 }

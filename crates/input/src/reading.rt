@@ -95,12 +95,7 @@ pub fn event_at(part: &[u8], i: usize) -> Event
     ensures { λ r. ⌜ r ≡ eventIn (now (part .entry)) i ⌝ }
 {
     if part.len() / Event::SIZE < i {
-        return Event {
-            kind: 0,
-            task: 0,
-            resource: 0,
-            tick: 0,
-        };
+        return Event::NONE;
     }
     let at = Event::SIZE * i;
     Event {

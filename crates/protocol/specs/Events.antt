@@ -14,7 +14,7 @@ use Rattle.input.specs.Words.{kind}
 use Rattle.setups.specs.Refusals.{setUpRefusal}
 use Rattle.setups.specs.Naming.{groupOf}
 use Rattle.setups.specs.Clearing.{cleared}
-use Rattle.input.specs.Kinds.{arrival, finish, request as asking, completion}
+use Rattle.input.specs.Kinds.{arrival, finish, request as asking, completion, noEvent}
 use Rattle.input.specs.declared.SetUp.{SetUp}
 use Rattle.input.specs.declared.Event.{Event}
 use Rattle.protocol.specs.Words.{nobody, absent, noTask, noGroup, task, stand, holder, len}
@@ -174,9 +174,6 @@ begin c =
 -- ---- from a set-up on: the state after some moves; of events alone, the answer to the n-th, after those before it
 abbrev pub after : SetUp → List Move → State
 after c ms = runBy (begin c .state) ms
-
-abbrev pub noEvent : Event
-noEvent = record { kind = 0; task = 0; resource = 0; tick = 0 }
 
 abbrev pub replyAt : State → List Event → ℕ → Reply
 replyAt s es n = step (run s (take n es)) (getD es n noEvent)

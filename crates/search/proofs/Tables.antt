@@ -65,3 +65,9 @@ module _ {ℓ} {A : Type ℓ} (f : ℕ → A) where
 
   pub table-all : (l : List A) (n : ℕ) → length l ≡ n → table f n ++ drop n l ≡ table f n
   table-all l n h = rw (drop-of-length-le l {i = n} (omega arith)) (append-nil (table f n))
+
+-- tables of functions that agree below the bound
+pub table-same {ℓ} : {A : Type ℓ} (f g : ℕ → A) (n : ℕ) → ((i : ℕ) → i < n → f i ≡ g i) → table f n ≡ table g n
+unfolding table
+table-same f g zero h = refl
+table-same f g (suc n) h = rw (table-same f g n (λ i l. h i (omega arith)), h n (omega arith))

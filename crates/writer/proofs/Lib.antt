@@ -1,0 +1,10 @@
+pub mod Answers
+pub mod Checked
+pub mod EventPlaces
+pub mod EventsBack
+pub mod EventsSame
+pub mod Few
+pub mod Reading
+pub mod SetUpBack
+pub mod SetUpPlaces
+pub mod SetUpSame

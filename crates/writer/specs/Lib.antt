@@ -1,0 +1,5 @@
+pub mod EventBlocks
+pub mod RoundTrip
+pub mod Sealed
+pub mod SetUpBlocks
+pub mod Written

@@ -1,0 +1,80 @@
+-- Ticket 1: what is written the reader accepts and reads back equal, places past a count coming back 0; and what the
+-- reader accepts, a set-up being free of 1 to 5 too, is written again byte for byte, whatever block is lent.
+use Prim.Native.Nat.{ℕ, _*_, _<_}
+use mathlib.Core.Path.{_≡_}
+use mathlib.Core.List.{List}
+use mathlib.Core.Logic.{_≢_}
+use lib.ListN.{length, getD}
+use Rattle.input.specs.Layout.{setUpSize, eventSize, setUpIn, eventIn}
+use Rattle.input.specs.declared.SetUp.{SetUp}
+use Rattle.setups.specs.Clearing.{cleared}
+use Rattle.setups.specs.Refusals.{setUpRefusal}
+use Rattle.blocks.specs.Sizes.{blockSize}
+use Rattle.blocks.specs.OneByte.{AreBytes}
+use Rattle.blocks.specs.Verdicts.{verdict, usedPart}
+use Rattle.blocks.specs.declared.Verdict.the-variants.{Used}
+use Rattle.writer.specs.SetUpBlocks.{setUpWritten}
+use Rattle.input.specs.Kinds.{noEvent}
+use Rattle.writer.specs.EventBlocks.{kept, eventsWritten, eventsRead}
+use Rattle.writer.specs.declared.Events.{Events}
+
+-- ---- a set-up
+-- where the answer is 0, the reader accepts the block
+abbrev pub SetUpAccepted : Type 0
+SetUpAccepted =
+    (c : SetUp) (out : List ℕ)
+    → setUpWritten c out .0 ≡ 0
+    → verdict (setUpWritten c out .1) 0 ≡ Used setUpSize
+
+-- and what it reads is the set-up, places past the counts being 0
+abbrev pub SetUpBack : Type 0
+SetUpBack =
+    (c : SetUp) (out : List ℕ)
+    → setUpWritten c out .0 ≡ 0
+    → setUpIn (usedPart (setUpWritten c out .1) (verdict (setUpWritten c out .1) 0)) ≡ cleared c
+
+-- a block that the reader accepts, its set-up being free of 1 to 5, is written again to the byte
+abbrev pub SetUpSame : Type 0
+SetUpSame =
+    (block : List ℕ) (n : ℕ)
+    → AreBytes block
+    → verdict block 0 ≡ Used n
+    → setUpRefusal (setUpIn (usedPart block (Used n))) ≡ 0
+    → (out : List ℕ)
+    → length out ≡ blockSize
+    → setUpWritten (setUpIn (usedPart block (Used n))) out ≡ (0, block)
+
+-- ---- events, of whatever content
+abbrev pub EventsAccepted : Type 0
+EventsAccepted =
+    (x : Events) (index : ℕ) (out : List ℕ)
+    → eventsWritten x index out .0 ≡ 0
+    → verdict (eventsWritten x index out .1) index ≡ Used (eventSize * x .count)
+
+-- and what it reads are the events, as many as were given, places past the count being empty
+abbrev pub EventsBack : Type 0
+EventsBack =
+    (x : Events) (index : ℕ) (out : List ℕ)
+    → eventsWritten x index out .0 ≡ 0
+    → eventsRead (usedPart (eventsWritten x index out .1) (verdict (eventsWritten x index out .1) index)) ≡ kept x
+
+-- so that each event that is read is the one that was given
+abbrev pub EachEventBack : Type 0
+EachEventBack =
+    (x : Events) (index : ℕ) (out : List ℕ)
+    → eventsWritten x index out .0 ≡ 0
+    → (i : ℕ)
+    → i < x .count
+    → eventIn (usedPart (eventsWritten x index out .1) (verdict (eventsWritten x index out .1) index)) i
+    ≡ getD (x .of) i noEvent
+
+-- a block that the reader accepts as events is written again to the byte
+abbrev pub EventsSame : Type 0
+EventsSame =
+    (block : List ℕ) (index n : ℕ)
+    → AreBytes block
+    → index ≢ 0
+    → verdict block index ≡ Used n
+    → (out : List ℕ)
+    → length out ≡ blockSize
+    → eventsWritten (eventsRead (usedPart block (Used n))) index out ≡ (0, block)

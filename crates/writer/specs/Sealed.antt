@@ -1,0 +1,43 @@
+-- Document 01, 'Blocks': a block by its places, and the check behind it.
+use Prim.Native.Nat.{ℕ, _-_, _/_, _%_}
+use mathlib.Core.List.{List, [], _∷_, _++_}
+use lib.Dec.{ltb}
+use lib.ListN.{getD, drop}
+use Rattle.search.specs.Words.{if_then_else_}
+use Rattle.search.specs.Table.{table}
+use Rattle.blocks.specs.Sizes.{payloadAt, checkAt, blockSize, numbers}
+use Rattle.blocks.specs.Check.{checkOf}
+use Rattle.blocks.specs.declared.Check.{Check}
+
+-- the two bytes of a number, which stand low first
+abbrev pub low : ℕ → ℕ
+low n = n % 256
+
+abbrev pub high : ℕ → ℕ
+high n = n / 256
+
+-- the number of a block, its kind and its count
+abbrev pub headOf : ℕ → ℕ → ℕ → List ℕ
+headOf index kind count = low (index % numbers) ∷ high (index % numbers) ∷ kind ∷ count ∷ []
+
+-- the first sum, then the second
+abbrev pub checkBytes : Check → List ℕ
+checkBytes c = low (c .first) ∷ high (c .first) ∷ low (c .second) ∷ high (c .second) ∷ []
+
+-- the byte at place i of a block: its head, its payload, and the check of these two
+module _ (head payload : List ℕ) where
+  unfoldable pub bodyByte : ℕ → ℕ
+  bodyByte i = if ltb i payloadAt then getD head i 0 else getD payload (i - payloadAt) 0
+
+  -- a lent block with all before its check written
+  abbrev pub bodyInto : List ℕ → List ℕ
+  bodyInto out = table bodyByte checkAt ++ drop checkAt out
+
+  unfoldable pub checkBehind : List ℕ
+  checkBehind = checkBytes (checkOf (table bodyByte checkAt))
+
+  unfoldable pub sealedByte : ℕ → ℕ
+  sealedByte i = if ltb i checkAt then bodyByte i else getD checkBehind (i - checkAt) 0
+
+  unfoldable pub sealed : List ℕ
+  sealed = table sealedByte blockSize
