@@ -5,3 +5,4 @@ pub mod Best
 pub mod Rows
 pub mod Numbered
 pub mod Table
+pub mod Texts

@@ -28,7 +28,7 @@ use Rattle.protocol.specs.Events.{arrives, leaves, softens, givesWay, arriveEve
 use Rattle.input.specs.Layout.{startIn, periodsIn, kindsIn, sideIn, setUpIn, eventIn, eventCount}
 use Rattle.blocks.specs.Check.{sums, isChecked}
 use Rattle.blocks.specs.Verdicts.{isBlank, isSetUpFilled, isEventFilled, blockRows, verdict}
-use Rattle.texts.specs.Texts.{codes, digits, eachText}
+use Rattle.search.specs.Texts.{codes, digits, eachText}
 use Rattle.texts.specs.Lines.{firstText, taskText, taskLineText, blockText, setUpText}
 use Rattle.stepping.specs.Files.{blocksOf, refusalOf, eventsFrom, answerText, endText, firstBlock, setUpOf, fileText}
 use Rattle.stepping.specs.Program.{Accepted}

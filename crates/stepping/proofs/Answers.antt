@@ -19,7 +19,7 @@ use Rattle.states.specs.Writing.{places, lineOf}
 use Rattle.protocol.proofs.Step.{run-join}
 use Rattle.locking.specs.Playing.{replyTo, told}
 use Rattle.locking.proofs.Runs.{played-told}
-use Rattle.texts.specs.Texts.{eachText}
+use Rattle.search.specs.Texts.{eachText}
 use Rattle.texts.specs.Lines.{placeText}
 use Rattle.texts.specs.Buffers.{eventText}
 use Rattle.stepping.specs.Pages.{wide, eventsText}

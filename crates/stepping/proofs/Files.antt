@@ -29,7 +29,7 @@ use Rattle.protocol.proofs.Theorems.{demand-3-after, totals-sum-after}
 use Rattle.blocks.specs.Sizes.{blockSize, mostEvents}
 use Rattle.blocks.specs.Verdicts.{blockRows, verdict}
 use Rattle.blocks.specs.OneByte.{AreBytes}
-use Rattle.texts.specs.Texts.{eachText}
+use Rattle.search.specs.Texts.{eachText}
 use Rattle.texts.specs.Lines.{firstText, blockText}
 use Rattle.stepping.specs.Pages.{beginning, nextPage}
 use Rattle.stepping.specs.Files.{blocksOf, refusalOf, partOf, eventsFrom, answersText, tasksText, endText, setUpOf, eventsOf, stateOf, fileState, fileText}

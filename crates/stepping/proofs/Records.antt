@@ -10,7 +10,7 @@ use Rattle.protocol.specs.declared.State.{State}
 use Rattle.states.specs.Writing.{lineSize, places, lineOf}
 use Rattle.locking.specs.Playing.{writtenTo, told}
 use Rattle.locking.proofs.Along.{long-along}
-use Rattle.texts.specs.Texts.{eachText}
+use Rattle.search.specs.Texts.{eachText}
 use Rattle.stepping.specs.Pages.{eventsText}
 use Rattle.stepping.proofs.Parts.{written-there, written-before}
 

@@ -16,7 +16,7 @@ use Rattle.protocol.specs.declared.State.{State}
 use Rattle.protocol.specs.declared.Reply.{Reply}
 use Rattle.blocks.specs.Sizes.{blockSize}
 use Rattle.blocks.specs.Verdicts.{verdict, usedPart, numberOf}
-use Rattle.texts.specs.Texts.{codes, decimal, numbered, eachText}
+use Rattle.search.specs.Texts.{codes, decimal, numbered, eachText}
 use Rattle.texts.specs.Lines.{firstText, placeText, taskLineText, blockText, setUpText}
 
 -- ---- what the blocks give

@@ -17,7 +17,7 @@ use Rattle.blocks.specs.Sizes.{mostEvents}
 use Rattle.blocks.specs.Verdicts.{verdict, usedPart}
 use Rattle.blocks.specs.declared.Verdict.{Verdict}
 use Rattle.blocks.specs.declared.Verdict.the-variants.{Used, Refused}
-use Rattle.texts.specs.Texts.{eachText}
+use Rattle.search.specs.Texts.{eachText}
 use Rattle.texts.specs.Lines.{firstText, blockText, setUpText}
 use Rattle.texts.specs.Buffers.{lineLimit, eventText}
 use Rattle.stepping.specs.Files.{tasksText}

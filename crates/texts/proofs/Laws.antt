@@ -12,7 +12,7 @@ use Rattle.search.specs.Rows.{Row, _when_, _otherwise_}
 use Rattle.input.specs.Limits.{nothing}
 use Rattle.states.specs.Writing.{written}
 use Rattle.states.proofs.Writing.{written-join}
-use Rattle.texts.specs.Texts.{codes, digit, digits, decimal, eachText}
+use Rattle.search.specs.Texts.{codes, digit, digits, decimal, eachText}
 use Rattle.texts.specs.Buffers.{Put}
 use Rattle.texts.specs.Lines.{taskText, placeText}
 use Rattle.texts.specs.Buffers.{lineLimit, lineInto, narrow}

@@ -13,7 +13,7 @@ use Rattle.input.specs.Layout.{byte}
 use Rattle.input.specs.Limits.{nothing}
 use Rattle.protocol.specs.Words.{totalCount}
 use Rattle.texts.proofs.Laws.{task-none, task-some, place-long}
-use Rattle.texts.specs.Texts.{digit, digits, decimal, mostDigits, numbered, eachText}
+use Rattle.search.specs.Texts.{digit, digits, decimal, mostDigits, numbered, eachText}
 use Rattle.texts.specs.Lines.{firstText, taskText, placeText, totalsText, taskLineText, blockText, setUpText}
 use Rattle.texts.specs.Buffers.{placesText, eventText, placeWidth, totalWidth, lineLimit, lineInto}
 

@@ -10,8 +10,8 @@ use lib.ListN.{length, getD, length-append, List·getD-append}
 use lib.Dec.{ltb}
 use borrow.Author.Tests.{lt-ltb, le-ltb}
 use Rattle.search.specs.Words.{if_then_else_}
-use Rattle.texts.specs.Texts.{digit, digits, decimal, mostDigits}
-use Rattle.texts.specs.Values.{valueBehind, ReadsBack, DigitsReadBack}
+use Rattle.search.specs.Texts.{digit, digits, decimal, mostDigits, valueBehind}
+use Rattle.texts.specs.Values.{ReadsBack, DigitsReadBack}
 
 value-last : (before : ℕ) (l : List ℕ) (d : ℕ) → valueBehind before (l ++ (d ∷ [])) ≡ 10 * valueBehind before l + (d - 48)
 value-last before [] d = refl

@@ -9,7 +9,7 @@ use Rattle.search.specs.Rows.{Row, _when_, _otherwise_, firstOf}
 use Rattle.processors.specs.Limits.{processors}
 use Rattle.input.specs.Layout.{byte}
 use Rattle.states.specs.Writing.{written}
-use Rattle.texts.specs.Texts.{codes, decimal, numbered, eachText}
+use Rattle.search.specs.Texts.{codes, decimal, numbered, eachText}
 use Rattle.texts.specs.Lines.{firstText, placeText, taskLineText, blockText, setUpText}
 use Rattle.texts.specs.declared.Line.{Line}
 

@@ -4,7 +4,7 @@ use mathlib.Core.List.{List, _++_}
 use lib.ListN.{length, getD}
 use Rattle.search.specs.Words.{if_then_else_, _is_}
 use Rattle.input.specs.Limits.{nothing}
-use Rattle.texts.specs.Texts.{codes, decimal, numbered, eachText}
+use Rattle.search.specs.Texts.{codes, decimal, numbered, eachText}
 
 -- the first line: the counts of processors and tasks, and start
 unfoldable pub firstText : ℕ → ℕ → ℕ → List ℕ

@@ -1,15 +1,9 @@
 -- Document 01, 'Printing': what a row of decimal digits says.
-use Prim.Native.Nat.{ℕ, _+_, _-_, _*_, _<_, _^_}
+use Prim.Native.Nat.{ℕ, _<_, _^_}
 use mathlib.Core.Path.{_≡_}
-use mathlib.Core.List.{List, [], _∷_}
 use mathlib.Core.Logic.{_≢_}
 use lib.ListN.{getD}
-use Rattle.texts.specs.Texts.{decimal}
-
--- read from the left, behind what was read before; a digit's code is 48 more than its value
-abbrev pub valueBehind : ℕ → List ℕ → ℕ
-valueBehind before [] = before
-valueBehind before (d ∷ digits) = valueBehind (10 * before + (d - 48)) digits
+use Rattle.search.specs.Texts.{decimal, valueBehind}
 
 -- the digits printed of a number of 64 bits read back as the number; none but 0 begins with a zero
 pub record ReadsBack (n : ℕ) : Type 0 where

@@ -6,7 +6,7 @@ use native.Mathlib.Omega.{arith}
 use lib.ListN.{length, take, drop}
 use borrow.Author.Needs.{needs}
 use Rattle.states.specs.Writing.{lineSize}
-use Rattle.texts.specs.Texts.{eachText}
+use Rattle.search.specs.Texts.{eachText}
 use Rattle.texts.specs.Buffers.{Put}
 use Rattle.texts.specs.Buffers.{lineLimit}
 use Rattle.texts.proofs.Laws.{put-none, put-more}

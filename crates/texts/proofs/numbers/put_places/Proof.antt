@@ -3,7 +3,7 @@ use Prim.Native.Nat.{_+_, _*_, _-_, _≤_}
 use mathlib.Core.Path.{_≡_}
 use native.Mathlib.Omega.{arith}
 use lib.ListN.{length}
-use Rattle.texts.specs.Texts.{eachText}
+use Rattle.search.specs.Texts.{eachText}
 use Rattle.texts.specs.Buffers.{Put}
 use Rattle.texts.specs.Buffers.{placesText, placeWidth}
 use Rattle.texts.proofs.Laws.{put-none, put-more}

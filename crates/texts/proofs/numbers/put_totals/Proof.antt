@@ -4,7 +4,7 @@ use mathlib.Core.Path.{_≡_}
 use native.Mathlib.Omega.{arith}
 use lib.ListN.{length, getD}
 use Rattle.protocol.specs.Words.{totalCount}
-use Rattle.texts.specs.Texts.{eachText}
+use Rattle.search.specs.Texts.{eachText}
 use Rattle.texts.specs.Buffers.{Put}
 use Rattle.texts.specs.Lines.{totalsText}
 use Rattle.texts.specs.Buffers.{totalWidth}

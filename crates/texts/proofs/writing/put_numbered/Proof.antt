@@ -2,7 +2,7 @@ use borrow.Author.Needs.{needs}
 use native.Mathlib.Omega.{arith}
 use lib.ListN.{length-append}
 use Rattle.texts.proofs.Laws.{put-then}
-use Rattle.texts.specs.Texts.{decimal}
+use Rattle.search.specs.Texts.{decimal}
 use Rattle.texts.proofs.writing.put_numbered.Statement.{statement}
 use Rattle.texts.proofs.writing.put_numbered.Tie as tie
 

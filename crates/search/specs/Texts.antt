@@ -1,10 +1,10 @@
 -- Texts as bytes: quoted ones by the codes of their characters, and numbers by their decimal digits.
-use Prim.Native.Nat.{ℕ, zero, suc, _+_, _/_, _%_}
+use Prim.Native.Nat.{ℕ, zero, suc, _+_, _-_, _*_, _/_, _%_}
 use Prim.Native.Char.{code}
 use Prim.Native.String.{String, [] as none, _∷_ as _then_}
 use mathlib.Core.List.{List, [], _∷_, _++_}
 use lib.Dec.{ltb}
 use Rattle.search.specs.Words.{if_then_else_}
 
 abbrev pub codes : String → List ℕ
 codes none = []
@@ -18,6 +18,11 @@ digit n = (48 + n % 10) ∷ []
 unfoldable pub digits : ℕ → ℕ → List ℕ
 digits zero n = []
 digits (suc k) n = (if ltb n 10 then [] else digits k (n / 10)) ++ digit n
+
+-- what a row of decimal digits says, read from the left behind what was read before; a digit's code is 48 more than its value
+abbrev pub valueBehind : ℕ → List ℕ → ℕ
+valueBehind before [] = before
+valueBehind before (d ∷ digits) = valueBehind (10 * before + (d - 48)) digits
 
 -- twenty digits hold every number of 64 bits
 abbrev pub mostDigits : ℕ
