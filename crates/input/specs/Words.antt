@@ -2,10 +2,24 @@
 use Prim.Native.Nat.{ℕ}
 use mathlib.Core.Bool.{Bool, _&&_}
 use lib.Dec.{leb, ltb}
-use lib.ListN.{getD}
+use lib.ListN.{getD, replicate}
 use Rattle.search.specs.Below.{anyBelow}
 use Rattle.input.specs.Limits.{mostTasks, mostResources, mostPairs}
 use Rattle.input.specs.declared.SetUp.{SetUp}
+
+-- every count 0, and every place
+abbrev pub noSetUp : SetUp
+noSetUp = record {
+  processors = 0;
+  tasks = 0;
+  resources = 0;
+  pairs = 0;
+  start = 0;
+  periods = replicate mostTasks 0;
+  kinds = replicate mostResources 0;
+  outer = replicate mostPairs 0;
+  inner = replicate mostPairs 0;
+}
 
 abbrev pub within : ℕ → ℕ → ℕ → Bool
 within low n high = leb low n && leb n high

@@ -8,6 +8,8 @@ pub use reading::event_at;
 pub use reading::event_count;
 pub use reading::set_up_from;
 pub use reading::word_of;
+ghost use mathlib.Core.Path.{_≡_};
+ghost use Rattle.input.specs.Words.{noSetUp};
 
 // The counts, the starting clock, each task's period, each resource's kind, and the nesting pairs.
 // Places past a count are not read.
@@ -49,6 +51,23 @@ impl SetUp {
     pub const PAIRS_AT: usize = SetUp::KINDS_AT + SetUp::RESOURCES;
 
     pub const SIZE: usize = SetUp::PAIRS_AT + 2 * SetUp::PAIRS;
+
+    // No set-up: every count is 0, and every place.
+    pub fn none() -> SetUp
+        ensures { λ r. ⌜ r ≡ noSetUp ⌝ }
+    {
+        SetUp {
+            processors: 0,
+            tasks: 0,
+            resources: 0,
+            pairs: 0,
+            start: 0,
+            periods: [0; SetUp::TASKS],
+            kinds: [0; SetUp::RESOURCES],
+            outer: [0; SetUp::PAIRS],
+            inner: [0; SetUp::PAIRS],
+        }
+    }
 }
 
 pub struct Event {

@@ -9,8 +9,8 @@ use Rattle.processors.specs.Words.{noneLinked}
 use Rattle.processors.specs.declared.Processors.{Processors}
 use Rattle.scheduler.specs.Arriving.{arriving as linking}
 use Rattle.scheduler.specs.Leaving.{becomingPreemptable, leaving, givingWay}
-use Rattle.input.specs.Limits.{mostTasks, mostResources, mostPairs, short}
-use Rattle.input.specs.Words.{kind}
+use Rattle.input.specs.Limits.{mostTasks, mostResources, short}
+use Rattle.input.specs.Words.{kind, noSetUp}
 use Rattle.setups.specs.Refusals.{setUpRefusal}
 use Rattle.setups.specs.Naming.{groupOf}
 use Rattle.setups.specs.Clearing.{cleared}
@@ -144,19 +144,6 @@ unfoldable pub run : State → List Event → State
 run s es = runBy s (plain es)
 
 -- ---- what a set-up gives: nobody has arrived; a refused one gives an empty state
-abbrev pub noSetUp : SetUp
-noSetUp = record {
-  processors = 0;
-  tasks = 0;
-  resources = 0;
-  pairs = 0;
-  start = 0;
-  periods = replicate mostTasks 0;
-  kinds = replicate mostResources 0;
-  outer = replicate mostPairs 0;
-  inner = replicate mostPairs 0;
-}
-
 unfoldable pub fresh : SetUp → State
 fresh c = record {
   setup = c;

@@ -5,23 +5,8 @@ use protocol::Reply;
 use protocol::State;
 use protocol::Task;
 ghost use mathlib.Core.Path.{_≡_};
-ghost use Rattle.protocol.specs.Events.{noSetUp, fresh as freshState, begin as beginRule};
-
-fn no_set_up() -> SetUp
-    ensures { λ r. ⌜ r ≡ noSetUp ⌝ }
-{
-    SetUp {
-        processors: 0,
-        tasks: 0,
-        resources: 0,
-        pairs: 0,
-        start: 0,
-        periods: [0u16; SetUp::TASKS],
-        kinds: [0u8; SetUp::RESOURCES],
-        outer: [0u8; SetUp::PAIRS],
-        inner: [0u8; SetUp::PAIRS],
-    }
-}
+ghost use Rattle.protocol.specs.Events.{fresh as freshState, begin as beginRule};
+ghost use Rattle.input.specs.Words.{noSetUp};
 
 // Nobody has arrived.
 fn fresh(setup: SetUp) -> State
@@ -45,7 +30,7 @@ fn fresh(setup: SetUp) -> State
 pub fn empty() -> State
     ensures { λ r. ⌜ r ≡ freshState noSetUp ⌝ }
 {
-    fresh(no_set_up())
+    fresh(SetUp::none())
 }
 
 // The state that a set-up gives; a refused one gives an empty state.

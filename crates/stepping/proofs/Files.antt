@@ -19,7 +19,8 @@ use Rattle.input.specs.declared.Event.{Event}
 use Rattle.setups.specs.Refusals.{setUpRefusal}
 use Rattle.setups.specs.Clearing.{cleared}
 use Rattle.setups.proofs.Accepted.{accepted-iff}
-use Rattle.protocol.specs.Events.{runBy, plain, run, begin, fresh, noSetUp, after}
+use Rattle.protocol.specs.Events.{runBy, plain, run, begin, fresh, after}
+use Rattle.input.specs.Words.{noSetUp}
 use Rattle.protocol.specs.Demands.{Given}
 use Rattle.protocol.specs.declared.State.{State}
 use Rattle.protocol.proofs.Statements.{Sound}

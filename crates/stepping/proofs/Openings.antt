@@ -20,7 +20,8 @@ use Rattle.input.specs.declared.SetUp.{SetUp}
 use Rattle.setups.specs.Refusals.{setUpRefusal}
 use Rattle.setups.specs.Clearing.{cleared}
 use Rattle.protocol.specs.Words.{lastClock}
-use Rattle.protocol.specs.Events.{begin, fresh, noSetUp, run}
+use Rattle.protocol.specs.Events.{begin, fresh, run}
+use Rattle.input.specs.Words.{noSetUp}
 use Rattle.protocol.specs.declared.State.{State}
 use Rattle.blocks.specs.Sizes.{lastIndex, mostEvents, payloadAt}
 use Rattle.blocks.specs.Verdicts.{usedSize, isFirst, blockRows, verdict, usedPart, numberOf}

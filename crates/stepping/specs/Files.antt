@@ -11,7 +11,8 @@ use Rattle.input.specs.declared.SetUp.{SetUp}
 use Rattle.input.specs.declared.Event.{Event}
 use Rattle.setups.specs.Refusals.{setUpRefusal}
 use Rattle.protocol.specs.Words.{task}
-use Rattle.protocol.specs.Events.{plain, begin, fresh, noSetUp, after, replyAt}
+use Rattle.protocol.specs.Events.{plain, begin, fresh, after, replyAt}
+use Rattle.input.specs.Words.{noSetUp}
 use Rattle.protocol.specs.declared.State.{State}
 use Rattle.protocol.specs.declared.Reply.{Reply}
 use Rattle.blocks.specs.Sizes.{blockSize}

@@ -9,7 +9,8 @@ use lib.ListN.{length}
 use Rattle.search.specs.Words.{if_then_else_, _is_}
 use Rattle.input.specs.Limits.{mostTasks}
 use Rattle.input.specs.Layout.{setUpIn, eventCount}
-use Rattle.protocol.specs.Events.{begin, noSetUp, fresh}
+use Rattle.protocol.specs.Events.{begin, fresh}
+use Rattle.input.specs.Words.{noSetUp}
 use Rattle.protocol.specs.declared.Reply.{Reply}
 use Rattle.states.specs.Writing.{written}
 use Rattle.locking.specs.Playing.{playedTo, told}
