@@ -17,7 +17,8 @@ module _ (x : Events) where
   events-at i h = table-at (eventsByte x) payloadSize i 0 h
 
   -- byte k of event j
-  pub event-byte : (i j k : ℕ) → i ≡ eventSize * j + k → k < eventSize → eventsByte x i ≡ getD (eventBytes (eventOf x j)) k 0
+  pub event-byte : (i j k : ℕ) → i ≡ eventSize * j + k → k < eventSize
+      → eventsByte x i ≡ getD (eventBytes (eventOf x j)) k 0
   unfolding eventsByte
   event-byte i j k e h =
       let place : i / eventSize ≡ j = omega arith in

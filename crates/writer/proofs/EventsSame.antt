@@ -53,7 +53,8 @@ module _ (b : List ℕ) (index n : ℕ) (bytes : AreBytes b) (later : index ≢ 
       let e = size in
       omega (arith, part-length b n (well .size) (omega arith), e)
 
-  filled : (allBelow (count b) (λ i. payload b (eventSize * i + 3) is 0) ≡ true) × (isBlank b (eventSize * count b) payloadSize ≡ true)
+  filled : (allBelow (count b) (λ i. payload b (eventSize * i + 3) is 0) ≡ true)
+      × (isBlank b (eventSize * count b) payloadSize ≡ true)
   unfolding isEventFilled
   filled = let z : isEventFilled b ≡ true = rw (ne-eqb index 0 later) at (well .filled) in simp and-iff at z
 
@@ -61,7 +62,8 @@ module _ (b : List ℕ) (index n : ℕ) (bytes : AreBytes b) (later : index ≢ 
   at i h = part-at b n i (omega (arith, size))
 
   -- the bytes of the j-th event
-  field-same : (j : ℕ) → j < count b → (k : ℕ) → k < eventSize → getD (eventBytes (eventIn read j)) k 0 ≡ payload b (eventSize * j + k)
+  field-same : (j : ℕ) → j < count b → (k : ℕ) → k < eventSize
+      → getD (eventBytes (eventIn read j)) k 0 ≡ payload b (eventSize * j + k)
   unfolding eventIn
   field-same j h =
       let z : eventSize * j + 0 ≡ eventSize * j = omega arith in
@@ -71,7 +73,8 @@ module _ (b : List ℕ) (index n : ℕ) (bytes : AreBytes b) (later : index ≢ 
       let e2 : byte read (eventSize * j + 2) ≡ payload b (eventSize * j + 2) = at (eventSize * j + 2) (omega arith) in
       let e3 : 0 ≡ payload b (eventSize * j + 3) = sym ((simp tests at (filled .0)) j h) in
       let r4 : byte read (eventSize * j + 4) ≡ payload b (eventSize * j + 4) = at (eventSize * j + 4) (omega arith) in
-      let r5 : byte read (eventSize * j + 4 + 1) ≡ payload b (eventSize * j + 5) = rw five (at (eventSize * j + 5) (omega arith)) in
+      let r5 : byte read (eventSize * j + 4 + 1) ≡ payload b (eventSize * j + 5) =
+      rw five (at (eventSize * j + 5) (omega arith)) in
       let small : payload b (eventSize * j + 4) < 256 = bytes (payloadAt + (eventSize * j + 4)) in
       let e4 : low (word read (eventSize * j + 4)) ≡ payload b (eventSize * j + 4) = omega (arith, r4, r5, small) in
       let e5 : high (word read (eventSize * j + 4)) ≡ payload b (eventSize * j + 5) = omega (arith, r4, r5, small) in
@@ -102,11 +105,18 @@ module _ (b : List ℕ) (index n : ℕ) (bytes : AreBytes b) (later : index ≢ 
       (λ i h. sym (events-at x i h ∙ byte-same i h))
 
   nothing-refused : EventsFree x index
-  nothing-refused = record { some = omega (arith, count-same, counted); few = omega (arith, count-same, counted); later = later; inside = well .inside }
+  nothing-refused = record {
+    some = omega (arith, count-same, counted);
+    few = omega (arith, count-same, counted);
+    later = later;
+    inside = well .inside;
+  }
 
 pub events-same : EventsSame
 unfolding eventsWritten
 events-same b index n bytes later used out size =
     let x = eventsRead (usedPart b (Used n)) in
     let free = free-events x index (nothing-refused b index n bytes later used) in
-    written-zero (lentRows out (eventRows x index)) (blockOfEvents x index) out (lent-zero out (eventRows x index) size free) ∙ rw (again b index n bytes later used)
+    written-zero (lentRows out (eventRows x index)) (blockOfEvents x index) out
+    (lent-zero out (eventRows x index) size free)
+    ∙ rw (again b index n bytes later used)

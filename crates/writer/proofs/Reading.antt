@@ -1,5 +1,5 @@
--- What the reader asks of a block, as statements: such a block is accepted, and an accepted block is such; and the bytes of its used
--- part. Assumes nothing.
+-- What the reader asks of a block, as statements: such a block is accepted, and an accepted block is such; and the
+-- bytes of its used part. Assumes nothing.
 use Prim.Native.Nat.{ℕ, _+_, _-_, _%_, _<_, _≤_}
 use mathlib.Core.Path.{_≡_, sym, ap, _∙_}
 use mathlib.Core.Bool.{true, false, not, _||_}
@@ -37,7 +37,8 @@ module _ (block : List ℕ) (index : ℕ) where
   right-accepted r =
       let r30 : (length block isn't blockSize) ≡ false = simp tests (r .size) in
       let r31 : not (isChecked block) ≡ false = rw (r .checked) in
-      let r32 : (word block 0 isn't index % numbers || ltb lastIndex index) ≡ false = simp tests (r .number, r .inside) in
+      let r32 : (word block 0 isn't index % numbers || ltb lastIndex index) ≡ false =
+      simp tests (r .number, r .inside) in
       let r33 : (byte block kindAt isn't kindFor (isFirst block index)) ≡ false = simp tests (r .kind) in
       let r34 : not (within 1 (count block) (mostFor (isFirst block index))) ≡ false = simp tests (r .counted) in
       let r35 : not (isFilled block (isFirst block index)) ≡ false = rw (r .filled) in
@@ -65,7 +66,8 @@ module _ (block : List ℕ) (index : ℕ) where
     accepted-size = ap lengthOf (sym used ∙ right-accepted accepted-right)
 
 -- its head is the one that is written
-pub head-same : (block : List ℕ) (index : ℕ) → AreBytes block → Right block index → (k n : ℕ) → kindFor (isFirst block index) ≡ k → count block ≡ n
+pub head-same : (block : List ℕ) (index : ℕ) → AreBytes block → Right block index → (k n : ℕ)
+    → kindFor (isFirst block index) ≡ k → count block ≡ n
     → (i : ℕ) → i < payloadAt → byte block i ≡ getD (headOf index k n) i 0
 head-same block index bytes r k n kind counts =
     let low-byte : byte block 0 < 256 = bytes 0 in
