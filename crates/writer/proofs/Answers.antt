@@ -41,7 +41,7 @@ lent-zero out later s h = rw (eq-eqb (length out) blockSize s) h
 pub written-zero : (rows : List Row) (block out : List ℕ) → firstOf rows ≡ 0 → writtenBy rows block out ≡ (0, block)
 written-zero rows block out z = rw z
 
-pub written-refused : (rows : List Row) (block out : List ℕ) (r : ℕ) → r ≡ firstOf rows → r ≢ 0
+written-refused : (rows : List Row) (block out : List ℕ) (r : ℕ) → r ≡ firstOf rows → r ≢ 0
     → (r, out) ≡ writtenBy rows block out
 written-refused rows block out r given d =
     let n : eqb (firstOf rows) 0 ≡ false = ne-eqb (firstOf rows) 0 (λ e. d (given ∙ e)) in

@@ -70,7 +70,7 @@ module _ (head load : List ℕ) where
   unfolding sealed
   sealed-length = table-length (sealedByte head load) blockSize
 
-  pub sealed-at : (i : ℕ) → i < checkAt → byte (sealed head load) i ≡ bodyByte head load i
+  sealed-at : (i : ℕ) → i < checkAt → byte (sealed head load) i ≡ bodyByte head load i
   unfolding sealed
   sealed-at i h = table-at (sealedByte head load) blockSize i 0 (omega arith) ∙ sym (sealed-body i h)
 

@@ -29,7 +29,7 @@ module _ (x : Events) where
   unfolding eventOf
   event-kept j h = rw (lt-ltb j (x .count) h)
 
-  pub event-none : (j : ℕ) → x .count ≤ j → eventOf x j ≡ noEvent
+  event-none : (j : ℕ) → x .count ≤ j → eventOf x j ≡ noEvent
   unfolding eventOf
   event-none j h = rw (le-ltb j (x .count) h)
 

@@ -16,13 +16,14 @@ use Rattle.input.specs.Layout.{byte, word, eventSize, eventIn, eventCount}
 use Rattle.blocks.specs.Sizes.{payloadSize, eventBlock, mostEvents}
 use Rattle.blocks.specs.Verdicts.{payload, count, isBlank, isEventFilled, verdict, usedPart}
 use Rattle.blocks.specs.declared.Verdict.the-variants.{Used}
+use Rattle.blocks.proofs.Numbers.{used-length}
 use Rattle.writer.specs.Sealed.{low, high, headOf, sealed}
 use Rattle.writer.specs.EventBlocks.{eventBytes, eventOf, kept, eventsByte, eventsPayload, blockOfEvents, eventRows, eventsWritten, eventsRead}
 use Rattle.writer.specs.declared.Events.{Events}
 use Rattle.writer.specs.RoundTrip.{EventsAccepted, EventsBack, EachEventBack}
 use Rattle.writer.proofs.Answers.{lent-free, EventsFree, events-free}
 use Rattle.writer.proofs.Checked.{sealed-length, sealed-head, sealed-payload, sealed-checked}
-use Rattle.writer.proofs.Reading.{Right, right-accepted, blank-of, part-at, part-length}
+use Rattle.writer.proofs.Reading.{Right, right-accepted, blank-of, part-at}
 use Rattle.writer.proofs.EventPlaces.{events-at, event-byte, event-kept, events-none}
 
 module _ (x : Events) (index : ℕ) (free : EventsFree x index) where
@@ -67,7 +68,7 @@ module _ (x : Events) (index : ℕ) (free : EventsFree x index) where
         filled = rw first filled;
       }
 
-  pub block-accepted : verdict block index ≡ Used (eventSize * x .count)
+  block-accepted : verdict block index ≡ Used (eventSize * x .count)
   block-accepted =
       let first = ne-eqb index 0 (free .later) in
       right-accepted block index right ∙ rw (first, count-at)
@@ -77,9 +78,7 @@ module _ (x : Events) (index : ℕ) (free : EventsFree x index) where
   part = usedPart block (Used (eventSize * x .count))
 
   length-back : length part ≡ eventSize * x .count
-  length-back =
-      let few = free .few in
-      part-length block (eventSize * x .count) (sealed-length head (eventsPayload x)) (omega arith)
+  length-back = rw block-accepted at (used-length block index)
 
   read-at : (i : ℕ) → i < payloadSize → byte part i ≡ eventsByte x i
   read-at i h = elim (decLt i (eventSize * x .count)) [
@@ -105,7 +104,7 @@ module _ (x : Events) (index : ℕ) (free : EventsFree x index) where
       let t : word part (eventSize * j + 4) ≡ e .tick = omega (arith, f, g) in
       rw (a, b, d, t)
 
-  pub block-back : eventsRead part ≡ kept x
+  block-back : eventsRead part ≡ kept x
   unfolding eventsRead kept eventCount
   block-back =
       let n : length part / eventSize ≡ x .count = omega (arith, length-back) in

@@ -6,7 +6,7 @@ use mathlib.Core.List.{List}
 use mathlib.Core.Logic.{_≢_}
 use native.Mathlib.Omega.{arith}
 use native.Mathlib.Decide.{decLt}
-use lib.ListN.{getD}
+use lib.ListN.{length, getD}
 use borrow.Author.Tests.{ne-eqb}
 use Rattle.search.specs.Below.{allBelow}
 use Rattle.search.specs.Words.{_is_}
@@ -18,6 +18,8 @@ use Rattle.blocks.specs.Sizes.{payloadAt, payloadSize, eventBlock, mostEvents}
 use Rattle.blocks.specs.OneByte.{AreBytes}
 use Rattle.blocks.specs.Verdicts.{payload, count, isBlank, isEventFilled, verdict, usedPart}
 use Rattle.blocks.specs.declared.Verdict.the-variants.{Used}
+use Rattle.blocks.proofs.Limits.{used-size}
+use Rattle.blocks.proofs.Numbers.{used-length}
 use Rattle.writer.specs.Sealed.{low, high, headOf}
 use Rattle.writer.specs.Written.{lentRows}
 use Rattle.input.specs.Kinds.{noEvent}
@@ -27,7 +29,7 @@ use Rattle.writer.specs.RoundTrip.{EventsSame}
 use Rattle.writer.proofs.Answers.{lent-zero, written-zero, EventsFree, free-events}
 use Rattle.writer.proofs.Few.{below-six}
 use Rattle.writer.proofs.Checked.{sealed-same}
-use Rattle.writer.proofs.Reading.{Right, accepted-right, accepted-size, head-same, blank-at, part-at, part-length}
+use Rattle.writer.proofs.Reading.{Right, accepted-right, head-same, blank-at, part-at}
 use Rattle.writer.proofs.EventPlaces.{events-at, event-byte, event-kept, events-none}
 
 module _ (b : List ℕ) (index n : ℕ) (bytes : AreBytes b) (later : index ≢ 0) (used : verdict b index ≡ Used n) where
@@ -44,14 +46,13 @@ module _ (b : List ℕ) (index n : ℕ) (bytes : AreBytes b) (later : index ≢ 
   counted = rw (ne-eqb index 0 later) at (well .counted)
 
   size : n ≡ eventSize * count b
-  size = rw (ne-eqb index 0 later) at (accepted-size b index n used)
+  size = rw (ne-eqb index 0 later) at (used-size b index n used)
 
   count-same : x .count ≡ count b
   unfolding eventsRead eventCount
   count-same =
-      let few = counted .1 in
-      let e = size in
-      omega (arith, part-length b n (well .size) (omega arith), e)
+      let long : length read ≡ n = rw used at (used-length b index) in
+      omega (arith, long, size)
 
   filled : (allBelow (count b) (λ i. payload b (eventSize * i + 3) is 0) ≡ true)
       × (isBlank b (eventSize * count b) payloadSize ≡ true)

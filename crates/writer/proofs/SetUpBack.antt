@@ -26,19 +26,19 @@ use Rattle.writer.proofs.SetUpPlaces.{payload-at, at-counts, at-start, 
 
 -- what is 0 past a count, of a clear set-up
 module _ (c : SetUp) (clear : isClear c ≡ true) where
-  pub period-none : (t : ℕ) → c .tasks ≤ t → t < mostTasks → period c t ≡ 0
+  period-none : (t : ℕ) → c .tasks ≤ t → t < mostTasks → period c t ≡ 0
   unfolding isClear emptyFrom
   period-none t l h = (simp tests at clear) .0 .0 .0 t h l
 
-  pub kind-none : (r : ℕ) → c .resources ≤ r → r < mostResources → kind c r ≡ 0
+  kind-none : (r : ℕ) → c .resources ≤ r → r < mostResources → kind c r ≡ 0
   unfolding isClear emptyFrom
   kind-none r l h = (simp tests at clear) .0 .0 .1 r h l
 
-  pub outer-none : (i : ℕ) → c .pairs ≤ i → i < mostPairs → outerOf c i ≡ 0
+  outer-none : (i : ℕ) → c .pairs ≤ i → i < mostPairs → outerOf c i ≡ 0
   unfolding isClear emptyFrom
   outer-none i l h = (simp tests at clear) .0 .1 i h l
 
-  pub inner-none : (i : ℕ) → c .pairs ≤ i → i < mostPairs → innerOf c i ≡ 0
+  inner-none : (i : ℕ) → c .pairs ≤ i → i < mostPairs → innerOf c i ≡ 0
   unfolding isClear emptyFrom
   inner-none i l h = (simp tests at clear) .1 i h l
 
@@ -112,7 +112,7 @@ module _ (d : SetUp) (clear : isClear d ≡ true) where
     filled = filled;
   }
 
-  pub block-accepted : verdict block 0 ≡ Used setUpSize
+  block-accepted : verdict block 0 ≡ Used setUpSize
   block-accepted = right-accepted block 0 right
 
   -- ---- what is read of it
@@ -162,7 +162,7 @@ module _ (d : SetUp) (clear : isClear d ≡ true) where
     inner-back = sym (table-of (λ i. byte part (pairsAt + 2 * i + 1)) (d .inner) mostPairs 0 (s .inner) (λ i h.
         sym (read-at (pairsAt + 2 * i + 1) (omega arith) ∙ pair-inner d (pairsAt + 2 * i + 1) i h refl)))
 
-    pub block-back : setUpIn part ≡ d
+    block-back : setUpIn part ≡ d
     unfolding setUpIn
     block-back =
         let p0 : byte part 0 ≡ d .processors = part-at block setUpSize 0 (omega arith) ∙ count-at .0 in

@@ -21,6 +21,7 @@ use Rattle.blocks.specs.Sizes.{payloadSize, payloadAt, setUpBlock}
 use Rattle.blocks.specs.OneByte.{AreBytes}
 use Rattle.blocks.specs.Verdicts.{payload, count, isBlank, isSetUpFilled, verdict, usedPart}
 use Rattle.blocks.specs.declared.Verdict.the-variants.{Used}
+use Rattle.blocks.proofs.Limits.{used-size}
 use Rattle.writer.specs.Sealed.{low, high, headOf}
 use Rattle.writer.specs.Written.{lentRows}
 use Rattle.writer.specs.SetUpBlocks.{countBytes, startBytes, setUpByte, setUpPayload, blockOfSetUp, setUpWritten}
@@ -28,7 +29,7 @@ use Rattle.writer.specs.RoundTrip.{SetUpSame}
 use Rattle.writer.proofs.Answers.{lent-zero, written-zero}
 use Rattle.writer.proofs.Few.{below-four}
 use Rattle.writer.proofs.Checked.{sealed-same}
-use Rattle.writer.proofs.Reading.{Right, accepted-right, accepted-size, head-same, blank-at, part-at}
+use Rattle.writer.proofs.Reading.{Right, accepted-right, head-same, blank-at, part-at}
 use Rattle.writer.proofs.SetUpPlaces.{payload-at, at-counts, at-start, at-kinds, at-rest, period-low, period-high, pair-outer, pair-inner}
 
 bytes-of : (n x y : ℕ) → x < 256 → n ≡ x + 256 * y → (low n ≡ x) × (high n ≡ y)
@@ -49,7 +50,7 @@ module _ (b : List ℕ) (n : ℕ) (bytes : AreBytes b) (used : verdict b 0 ≡ U
   well = accepted-right b 0 n used
 
   at : (i : ℕ) → i < setUpSize → byte read i ≡ payload b i
-  at i h = part-at b n i (omega (arith, accepted-size b 0 n used))
+  at i h = part-at b n i (omega (arith, used-size b 0 n used))
 
   counts : (c .processors ≡ payload b 0) × (c .tasks ≡ payload b 1)
       × (c .resources ≡ payload b 2) × (c .pairs ≡ payload b 3)
