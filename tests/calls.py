@@ -221,7 +221,7 @@ def set_up_block(*parts):
 BUSY = set_up_block(2, [100, 200, 50], 'short long', [(1, 0)], 65_530)
 
 SET_UPS_WRITTEN = [
-    # As it is, and with a 9 in the last place of each table, past the counts: written 0.
+    # As it is, and with a 9 in the first and the last place of each table past its count: written 0.
     wrote(BUSY), wrote(BUSY),
     # Every place in use. The start is 4, 3, 2, 1 in bytes, and each period 6, 5.
     wrote(set_up_block(8, [0x0506] * 32, 'long ' * 32, [(8, 9)] * 64, 0x01020304)),
@@ -232,16 +232,16 @@ SET_UPS_WRITTEN = [
     kept(37), kept(37),
 ]
 
-# What is read of the 9s in the set-up written: the answer, and the places of periods, kinds, outer and inner resources.
+# What is read of the first 9s in the block written: the answer, and a place of periods, kinds, outer and inner.
 PAST_COUNTS = '0 0 0 0 0'
 
-# An event with a byte of each sort, and behind it events of kind 0, or events with 255 in all bytes but the reserve.
+# An event of which each byte is another; behind it events of kind 0, or with 255 in all bytes but the reserve.
 MIXED = record(1, 2, 3, 0x0504)
 NONE = record(0, 0, 0, 0)
 LARGEST = record(255, 255, 255, 65_535)
 
 EVENTS_WRITTEN = [
-    # Two events of 84, of which the others are of kind 0; one, of which the others are past the count: written 0.
+    # Two events, the second of kind 0; and one, where the places past the count are not empty: written 0.
     wrote(block_of(1, 2, 2, MIXED + NONE)),
     wrote(block_of(1, 2, 1, MIXED)),
     # 84 events at index 65,536, whose number is 0, and at the last index.

@@ -32,7 +32,7 @@ const LARGEST: Event = Event {
     tick: 65535,
 };
 
-// Whether what was read of a block is accepted by the writer, and written as the block was, to the byte.
+// Whether the writer accepts what was read of a block, and writes that block to the byte.
 fn is_set_up_again(setup: SetUp, block: &[u8]) -> bool {
     let mut out = [LENT; Block::SIZE];
     let answer = writer::write_set_up(setup, &mut out);
@@ -99,7 +99,7 @@ fn tell_events(e: Event, count: usize, index: u64, room: usize)
     print_written(answer, out, index);
 }
 
-// The set-up with the fault of that number, and, with 0, none.
+// The set-up with the fault that has that number; with 0, without any.
 fn faulty(number: u8) -> SetUp {
     let mut setup = printed::busy_set_up();
     match number {
@@ -116,9 +116,13 @@ fn faulty(number: u8) -> SetUp {
     setup
 }
 
-// The set-up with numbers in the last place of each table, past its counts.
+// The set-up, of 3 tasks, 2 resources and a pair, with a number in the first and the last place past each count.
 fn past_counts() -> SetUp {
     let mut setup = printed::busy_set_up();
+    setup.periods[3] = 9;
+    setup.kinds[2] = 9;
+    setup.outer[1] = 9;
+    setup.inner[1] = 9;
     setup.periods[SetUp::TASKS - 1] = 9;
     setup.kinds[SetUp::RESOURCES - 1] = 9;
     setup.outer[SetUp::PAIRS - 1] = 9;
@@ -126,16 +130,16 @@ fn past_counts() -> SetUp {
     setup
 }
 
-// What comes back of these numbers.
+// What comes back of the first of these numbers.
 fn tell_past_counts() {
     let mut out = [LENT; Block::SIZE];
     io::write_all(STDOUT_FILENO, b"past counts");
     print_answer(writer::write_set_up(past_counts(), &mut out));
     let back = input::set_up_from(blocks::used_part(&out, blocks::judge(&out, 0)));
-    print_number(back.periods[SetUp::TASKS - 1] as u64);
-    print_answer(back.kinds[SetUp::RESOURCES - 1]);
-    print_answer(back.outer[SetUp::PAIRS - 1]);
-    print_answer(back.inner[SetUp::PAIRS - 1]);
+    print_number(back.periods[3] as u64);
+    print_answer(back.kinds[2]);
+    print_answer(back.outer[1]);
+    print_answer(back.inner[1]);
     end_row();
 }
 
