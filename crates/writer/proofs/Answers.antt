@@ -47,6 +47,9 @@ written-refused rows block out r given d =
     let n : eqb (firstOf rows) 0 ≡ false = ne-eqb (firstOf rows) 0 (λ e. d (given ∙ e)) in
     rw (given, n)
 
+pub written-kept : (rows : List Row) (block out : List ℕ) → firstOf rows ≢ 0 → writtenBy rows block out .1 ≡ out
+written-kept rows block out d = rw (ne-eqb (firstOf rows) 0 d)
+
 -- ---- a set-up, with the answer r
 module _ (c : SetUp) (out : List ℕ) (r : ℕ) (given : r ≡ firstOf (lentRows out (setUpRows c))) where
   pub set-up-refused : r ≢ 0 → (r, out) ≡ setUpWritten c out
