@@ -1,11 +1,14 @@
 """What is expected of the calls that crates/edges makes behind its files, worked out by hand from document 01.
 
 Of a line: its number from the list, its length, and how many bytes of the buffer were written: all of the line, or,
-refused, none. Of a block or an event: its number alone. Behind them stand rows of hostile states, of pages and of
-parts, whose columns are told below.
+refused, none. Of a block or an event: its number alone. Behind them stand rows of hostile states, of pages, of parts
+and of written blocks, whose columns are told below.
 """
 
 from dataclasses import dataclass
+
+from blocks import block_of, record, setup
+from model import BLOCK, CHECK_AT, HEAD, setup_in, verdict
 
 
 def line(text):
@@ -182,10 +185,85 @@ PARTS = [
 ]
 
 
+# ---- blocks that are written ----
+
+def is_written_again(block, index):
+    """'What the reader accepts, a set-up being free of 1 to 5 too, the writer reproduces byte for byte.'"""
+    return verdict(block, index) == 0 and (index > 0 or setup_in(block).refusal() == 0)
+
+
+def written_again(data):
+    """Behind each file: how many of its blocks, each at its own place, behind a refused one too."""
+    blocks = [data[at:at + BLOCK] for at in range(0, len(data), BLOCK)]
+    return f'written again {sum(is_written_again(block, index) for index, block in enumerate(blocks))}'
+
+
+# What a block is lent with.
+LENT = 7
+
+
+def wrote(block):
+    """Answer 0, how many bytes are not as lent, the head, the check, and 1: read, it is written again."""
+    ends = block[:HEAD] + block[CHECK_AT:]
+    return f"0 {sum(byte != LENT for byte in block)} {' '.join(map(str, ends))} 1"
+
+
+def kept(number):
+    """'On refusal the block stays as lent.'"""
+    return f'{number} 0'
+
+
+def set_up_block(*parts):
+    return block_of(0, 1, 1, setup(*parts))
+
+
+# The printed case's set-up with a long resource 1 and a pair (1, 0) besides.
+BUSY = set_up_block(2, [100, 200, 50], 'short long', [(1, 0)], 65_530)
+
+SET_UPS_WRITTEN = [
+    # As it is, and with a 9 in the first and the last place of each table past its count: written 0.
+    wrote(BUSY), wrote(BUSY),
+    # Every place in use. The start is 4, 3, 2, 1 in bytes, and each period 6, 5.
+    wrote(set_up_block(8, [0x0506] * 32, 'long ' * 32, [(8, 9)] * 64, 0x01020304)),
+    # Processors outside the limit; a period 0; a kind 2; a resource 2 in a pair; the pair's kinds the other way round.
+    kept(1), kept(2), kept(3), kept(4), kept(5),
+    # Blocks of 511, 513 and 0 bytes: 37 comes before 1. Of 511 and 513, where nothing else is wrong.
+    kept(37), kept(37), kept(37),
+    kept(37), kept(37),
+]
+
+# What is read of the first 9s in the block written: the answer, and a place of periods, kinds, outer and inner.
+PAST_COUNTS = '0 0 0 0 0'
+
+# An event of which each byte is another; behind it events of kind 0, or with 255 in all bytes but the reserve.
+MIXED = record(1, 2, 3, 0x0504)
+NONE = record(0, 0, 0, 0)
+LARGEST = record(255, 255, 255, 65_535)
+
+EVENTS_WRITTEN = [
+    # Two events, the second of kind 0; and one, where the places past the count are not empty: written 0.
+    wrote(block_of(1, 2, 2, MIXED + NONE)),
+    wrote(block_of(1, 2, 1, MIXED)),
+    # 84 events at index 65,536, whose number is 0, and at the last index.
+    wrote(block_of(0, 2, 84, MIXED + LARGEST * 83)),
+    wrote(block_of(999_999, 2, 84, MIXED + LARGEST * 83)),
+    # Counts 0, 85 and the largest.
+    kept(34), kept(34), kept(34),
+    # Index 0, 1,000,000 and the largest.
+    kept(32), kept(32), kept(32),
+    # Both wrong: 34 comes before 32. In blocks of 511, 513 and 0 bytes 37 comes before both.
+    kept(34), kept(34),
+    kept(37), kept(37), kept(37),
+]
+
+
 def expected():
     rows = [f'call {n} {told}' for n, told in enumerate(CALLS, 1)]
     for n, told in enumerate([sound_rows(), *map(hostile_rows, HOSTILE)]):
         rows += [f'hostile {n} {row}' for row in told]
     rows += [f"page {('block', 'end')[n % 2]} {told}" for n, told in enumerate(PAGES)]
     rows += [f'part {told}' for told in PARTS]
+    rows += [f'write set-up {told}' for told in SET_UPS_WRITTEN]
+    rows += [f'past counts {PAST_COUNTS}']
+    rows += [f'write events {told}' for told in EVENTS_WRITTEN]
     return ''.join(f'{row}\n' for row in rows)

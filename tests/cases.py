@@ -27,55 +27,19 @@ sys.dont_write_bytecode = True
 
 import calls
 import slips
-from model import (ARRIVE, CHECK_AT, COMPLETE, FINISH, HEAD, KINDS_AT, MOST_RECORDS, PAIRS_AT,
-                   PASS, PERIODS_AT, REQUEST, SETUP_BYTES, START_AT, Session, check_of, printed,
-                   verdict)
+from blocks import block_of, event_blocks, record, setup
+from model import (ARRIVE, CHECK_AT, COMPLETE, FINISH, HEAD, KINDS_AT, PAIRS_AT, PASS, PERIODS_AT,
+                   REQUEST, SETUP_BYTES, Session, check_of, printed, verdict)
+
 
 ROOT = Path(__file__).resolve().parent.parent
 WORDS = {'arrive': ARRIVE, 'finish': FINISH, 'request': REQUEST, 'complete': COMPLETE, 'pass': PASS}
-KIND_WORDS = {'short': 0, 'long': 1}
 VERBATIM = ('processors', 'task', 'block', 'setup')
 
 # Places in a block, for faults.
 NUMBER, KIND, COUNT = 0, 2, 3
 PROCESSORS, TASKS, RESOURCES, PAIR_COUNT = HEAD, HEAD + 1, HEAD + 2, HEAD + 3
 PERIODS, KINDS, PAIRS, REST = HEAD + PERIODS_AT, HEAD + KINDS_AT, HEAD + PAIRS_AT, HEAD + SETUP_BYTES
-
-
-# ---- blocks ----
-
-def block_of(number, kind, count, payload):
-    head = (number % 65_536).to_bytes(2, 'little') + bytes([kind, count])
-    body = head + payload.ljust(CHECK_AT - HEAD, b'\0')
-    return body + check_of(body)
-
-
-def setup(processors, periods, kinds='', pairs=(), start=0):
-    """The payload of a set-up: periods, then kinds as words, then pairs (outer, inner)."""
-    kinds = [KIND_WORDS[word] for word in kinds.split()]
-    payload = bytearray(SETUP_BYTES)
-    payload[:4] = bytes([processors, len(periods), len(kinds), len(pairs)])
-    payload[START_AT:START_AT + 4] = start.to_bytes(4, 'little')
-    for t, period in enumerate(periods):
-        payload[PERIODS_AT + 2 * t:PERIODS_AT + 2 * t + 2] = period.to_bytes(2, 'little')
-    payload[KINDS_AT:KINDS_AT + len(kinds)] = bytes(kinds)
-    for n, pair in enumerate(pairs):
-        payload[PAIRS_AT + 2 * n:PAIRS_AT + 2 * n + 2] = bytes(pair)
-    return bytes(payload)
-
-
-def record(kind, task, resource, tick):
-    return bytes([kind, task, resource, 0]) + tick.to_bytes(2, 'little')
-
-
-def event_blocks(groups):
-    """Blocks of the groups of records, none of more than 84."""
-    blocks = []
-    for group in groups:
-        for at in range(0, len(group), MOST_RECORDS):
-            part = group[at:at + MOST_RECORDS]
-            blocks.append(block_of(1 + len(blocks), 2, len(part), b''.join(part)))
-    return blocks
 
 
 # ---- faults, applied to the blocks in the order given ----
@@ -200,7 +164,7 @@ def stored():
     stdin, stdout = b'', ''
     for n, one in enumerate(CASES, 1):
         stdin += len(one.data).to_bytes(4, 'little') + one.data
-        stdout += '\n'.join([f'case {n}'] + judged(one)) + '\n'
+        stdout += '\n'.join([f'case {n}', *judged(one), calls.written_again(one.data)]) + '\n'
     assert judged(CASES[0]) == PRINTED.split('\n')[1:-1]
     return {
         'crates/edges/stdin': stdin,

@@ -28,7 +28,7 @@ module _ (block : List ℕ) (index n : ℕ) (used : verdict block index ≡ Used
   unfolding blockRows
   used-count = (simp tests at (none 4 (omega arith))) .1
 
-  used-size : n ≡ usedSize block (isFirst block index)
+  pub used-size : n ≡ usedSize block (isFirst block index)
   unfolding blockRows verdict
   used-size =
       let zero : firstOf (blockRows block index) ≡ 0 = none-iff (blockRows block index) refl .1 none in

@@ -1,4 +1,7 @@
 // Files of blocks: each stands in the input behind its length, four bytes, low first.
+use crate::telling::end_row;
+use crate::telling::print_number;
+use crate::writing::is_written_again;
 use blocks::Block;
 use libc::STDIN_FILENO;
 use libc::STDOUT_FILENO;
@@ -7,6 +10,12 @@ use stepping::Session;
 
 // More than the input has.
 const MOST_FILES: u64 = 1000;
+
+// A walk through a file: its session, and how many of its blocks so far were written again to the byte.
+struct Walk {
+    session: Session,
+    again: u64,
+}
 
 // Writes the page of a block of which `read` came, and gives the session after it.
 fn write_page(session: Session, read: &[u8]) -> Session {
@@ -17,8 +26,17 @@ fn write_page(session: Session, read: &[u8]) -> Session {
     page.session
 }
 
-// Takes a block of a file that has `left` bytes left: its last block may be shorter, and past its end nothing is read.
-fn take_block_of(session: Session, left: usize) -> Session {
+// How many blocks were written again, this one among them. No file is so long that the count wraps.
+fn count_again(again: u64, read: &[u8], index: u64) -> u64 {
+    if is_written_again(read, index) {
+        return std::num::wrapping_add_u64(again, 1);
+    }
+    again
+}
+
+// Takes the block at an index of a file that has `left` bytes left: its last block may be shorter, and past its end
+// nothing is read.
+fn take_block_of(walk: Walk, index: u64, left: usize) -> Walk {
     let mut block = [0u8; Block::SIZE];
     let wanted = if left < Block::SIZE {
         left
@@ -26,7 +44,11 @@ fn take_block_of(session: Session, left: usize) -> Session {
         Block::SIZE
     };
     let got = io::read_full(STDIN_FILENO, &mut block[0..wanted]);
-    write_page(session, &block[0..got])
+    let again = count_again(walk.again, &block[0..got], index);
+    Walk {
+        session: write_page(walk.session, &block[0..got]),
+        again,
+    }
 }
 
 // How many bytes are left behind a block.
@@ -38,17 +60,27 @@ fn left_behind(left: usize) -> usize {
     }
 }
 
-// Steps through a file of `len` bytes; what stands behind a refused block is read and not printed.
+fn tell_again(again: u64) {
+    io::write_all(STDOUT_FILENO, b"written again");
+    print_number(again);
+    end_row();
+}
+
+// Steps through a file of `len` bytes; what stands behind a refused block is read and not printed. Last it tells how
+// many of all its blocks were written again to the byte.
 fn run_file(len: usize) {
-    let mut session = stepping::begin();
+    let mut walk = Walk {
+        session: stepping::begin(),
+        again: 0,
+    };
     let mut left = len;
-    let mut turns = len / Block::SIZE + 2;
-    while turns > 0 {
-        let next = take_block_of(session, left);
-        session = next;
+    let turns = len / Block::SIZE + 2;
+    for index in 0..turns {
+        let next = take_block_of(walk, index as u64, left);
+        walk = next;
         left = left_behind(left);
-        turns -= 1;
     }
+    tell_again(walk.again);
 }
 
 // Steps through the next file; past the input's end there is none.

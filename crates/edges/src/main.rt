@@ -9,6 +9,7 @@ mod pages;
 mod parts;
 mod printed;
 mod telling;
+mod writing;
 
 fn main() {
     files::run_all();
@@ -16,4 +17,5 @@ fn main() {
     answers::run_all();
     pages::run_all();
     parts::run_all();
+    writing::run_all();
 }

@@ -41,17 +41,22 @@ fn after(state: State, kind: u8, task: u8, tick: u16) -> State {
     reply.state
 }
 
-// The state after five events. Task 1 holds resource 0 and runs on processor 1, to which task 2 is linked; task 0 spins
-// for it on processor 0. A long resource, and a pair of it and the short one, which joins nothing, are there as well,
-// so that the state has a number of every sort.
-pub fn busy() -> State {
+// The set-up with a long resource besides, and a pair of it and the short one, which joins nothing, so that it has a
+// number of every sort.
+pub fn busy_set_up() -> SetUp {
     let mut setup = set_up(2);
     setup.resources = 2;
     setup.kinds[1] = SetUp::LONG;
     setup.pairs = 1;
     setup.outer[0] = 1;
     setup.inner[0] = 0;
-    let begun = states::begin(setup);
+    setup
+}
+
+// The state of that set-up after five events. Task 1 holds resource 0 and runs on processor 1, to which task 2 is
+// linked; task 0 spins for it on processor 0.
+pub fn busy() -> State {
+    let begun = states::begin(busy_set_up());
     let first = after(begun.state, Event::ARRIVAL, 0, 65530);
     let second = after(first, Event::ARRIVAL, 1, 65532);
     let third = after(second, Event::REQUEST, 1, 65535);

@@ -2,7 +2,7 @@
 use libc::STDOUT_FILENO;
 use lines::Line;
 
-// What the buffers hold before they are lent: a byte that nothing writes.
+// What the buffers hold before they are lent: a byte that no line has.
 pub const LENT: u8 = 7;
 
 pub fn print_number(n: u64) {

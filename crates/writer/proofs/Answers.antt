@@ -25,23 +25,30 @@ use Rattle.writer.specs.EventBlocks.{blockOfEvents, eventRows, eventsWri
 use Rattle.writer.specs.declared.Events.{Events}
 
 -- where nothing is refused, the lent block has its size, and no later row applies
-pub lent-free : (out : List ℕ) (later : List Row) → firstOf (lentRows out later) ≡ 0 → (length out ≡ blockSize) × (firstOf later ≡ 0)
+pub lent-free : (out : List ℕ) (later : List Row) → firstOf (lentRows out later) ≡ 0
+    → (length out ≡ blockSize) × (firstOf later ≡ 0)
 lent-free out later h = go (eqb (length out) blockSize) refl h
   where
-    go : (b : Bool) → eqb (length out) blockSize ≡ b → (if not b then 37 else firstOf later) ≡ 0 → (length out ≡ blockSize) × (firstOf later ≡ 0)
+    go : (b : Bool) → eqb (length out) blockSize ≡ b → (if not b then 37 else firstOf later) ≡ 0
+        → (length out ≡ blockSize) × (firstOf later ≡ 0)
     go true e h = (eqb-true (length out) blockSize e, h)
     go false e h = absurd (omega arith)
 
-pub lent-zero : (out : List ℕ) (later : List Row) → length out ≡ blockSize → firstOf later ≡ 0 → firstOf (lentRows out later) ≡ 0
+pub lent-zero : (out : List ℕ) (later : List Row) → length out ≡ blockSize → firstOf later ≡ 0
+    → firstOf (lentRows out later) ≡ 0
 lent-zero out later s h = rw (eq-eqb (length out) blockSize s) h
 
 pub written-zero : (rows : List Row) (block out : List ℕ) → firstOf rows ≡ 0 → writtenBy rows block out ≡ (0, block)
 written-zero rows block out z = rw z
 
-pub written-refused : (rows : List Row) (block out : List ℕ) (r : ℕ) → r ≡ firstOf rows → r ≢ 0 → (r, out) ≡ writtenBy rows block out
+written-refused : (rows : List Row) (block out : List ℕ) (r : ℕ) → r ≡ firstOf rows → r ≢ 0
+    → (r, out) ≡ writtenBy rows block out
 written-refused rows block out r given d =
     let n : eqb (firstOf rows) 0 ≡ false = ne-eqb (firstOf rows) 0 (λ e. d (given ∙ e)) in
     rw (given, n)
+
+pub written-kept : (rows : List Row) (block out : List ℕ) → firstOf rows ≢ 0 → writtenBy rows block out .1 ≡ out
+written-kept rows block out d = rw (ne-eqb (firstOf rows) 0 d)
 
 -- ---- a set-up, with the answer r
 module _ (c : SetUp) (out : List ℕ) (r : ℕ) (given : r ≡ firstOf (lentRows out (setUpRows c))) where

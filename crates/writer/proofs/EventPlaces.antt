@@ -17,7 +17,8 @@ module _ (x : Events) where
   events-at i h = table-at (eventsByte x) payloadSize i 0 h
 
   -- byte k of event j
-  pub event-byte : (i j k : ℕ) → i ≡ eventSize * j + k → k < eventSize → eventsByte x i ≡ getD (eventBytes (eventOf x j)) k 0
+  pub event-byte : (i j k : ℕ) → i ≡ eventSize * j + k → k < eventSize
+      → eventsByte x i ≡ getD (eventBytes (eventOf x j)) k 0
   unfolding eventsByte
   event-byte i j k e h =
       let place : i / eventSize ≡ j = omega arith in
@@ -28,7 +29,7 @@ module _ (x : Events) where
   unfolding eventOf
   event-kept j h = rw (lt-ltb j (x .count) h)
 
-  pub event-none : (j : ℕ) → x .count ≤ j → eventOf x j ≡ noEvent
+  event-none : (j : ℕ) → x .count ≤ j → eventOf x j ≡ noEvent
   unfolding eventOf
   event-none j h = rw (le-ltb j (x .count) h)
 

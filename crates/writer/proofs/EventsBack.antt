@@ -1,4 +1,5 @@
--- What is written of events the reader accepts and reads back, all of them, places past the count being empty. Assumes nothing.
+-- What is written of events the reader accepts and reads back, all of them, places past the count being empty. Assumes
+-- nothing.
 use Prim.Native.Nat.{ℕ, _+_, _*_, _/_, _%_, _<_}
 use mathlib.Core.Path.{_≡_, refl, sym, _∙_}
 use mathlib.Core.Bool.{true}
@@ -15,13 +16,14 @@ use Rattle.input.specs.Layout.{byte, word, eventSize, eventIn, eventCount}
 use Rattle.blocks.specs.Sizes.{payloadSize, eventBlock, mostEvents}
 use Rattle.blocks.specs.Verdicts.{payload, count, isBlank, isEventFilled, verdict, usedPart}
 use Rattle.blocks.specs.declared.Verdict.the-variants.{Used}
+use Rattle.blocks.proofs.Numbers.{used-length}
 use Rattle.writer.specs.Sealed.{low, high, headOf, sealed}
 use Rattle.writer.specs.EventBlocks.{eventBytes, eventOf, kept, eventsByte, eventsPayload, blockOfEvents, eventRows, eventsWritten, eventsRead}
 use Rattle.writer.specs.declared.Events.{Events}
 use Rattle.writer.specs.RoundTrip.{EventsAccepted, EventsBack, EachEventBack}
 use Rattle.writer.proofs.Answers.{lent-free, EventsFree, events-free}
 use Rattle.writer.proofs.Checked.{sealed-length, sealed-head, sealed-payload, sealed-checked}
-use Rattle.writer.proofs.Reading.{Right, right-accepted, blank-of, part-at, part-length}
+use Rattle.writer.proofs.Reading.{Right, right-accepted, blank-of, part-at}
 use Rattle.writer.proofs.EventPlaces.{events-at, event-byte, event-kept, events-none}
 
 module _ (x : Events) (index : ℕ) (free : EventsFree x index) where
@@ -43,8 +45,10 @@ module _ (x : Events) (index : ℕ) (free : EventsFree x index) where
       let few = free .few in
       let n = count-at in
       let reserve : allBelow (count block) (λ i. payload block (eventSize * i + 3) is 0) ≡ true =
-      simp tests (λ i l. load-at (eventSize * i + 3) (omega arith) ∙ event-byte x (eventSize * i + 3) i 3 refl (omega arith)) in
-      let rest : isBlank block (eventSize * count block) payloadSize ≡ true = blank-of block _ _ (λ i l h. load-at i h ∙ events-none x i (omega arith)) in
+      simp tests
+      (λ i l. load-at (eventSize * i + 3) (omega arith) ∙ event-byte x (eventSize * i + 3) i 3 refl (omega arith)) in
+      let rest : isBlank block (eventSize * count block) payloadSize ≡ true =
+      blank-of block _ _ (λ i l h. load-at i h ∙ events-none x i (omega arith)) in
       rw (reserve, rest)
 
   right : Right block index
@@ -64,7 +68,7 @@ module _ (x : Events) (index : ℕ) (free : EventsFree x index) where
         filled = rw first filled;
       }
 
-  pub block-accepted : verdict block index ≡ Used (eventSize * x .count)
+  block-accepted : verdict block index ≡ Used (eventSize * x .count)
   block-accepted =
       let first = ne-eqb index 0 (free .later) in
       right-accepted block index right ∙ rw (first, count-at)
@@ -74,7 +78,7 @@ module _ (x : Events) (index : ℕ) (free : EventsFree x index) where
   part = usedPart block (Used (eventSize * x .count))
 
   length-back : length part ≡ eventSize * x .count
-  length-back = let few = free .few in part-length block (eventSize * x .count) (sealed-length head (eventsPayload x)) (omega arith)
+  length-back = rw block-accepted at (used-length block index)
 
   read-at : (i : ℕ) → i < payloadSize → byte part i ≡ eventsByte x i
   read-at i h = elim (decLt i (eventSize * x .count)) [
@@ -82,7 +86,8 @@ module _ (x : Events) (index : ℕ) (free : EventsFree x index) where
     | no d ↦ List·getD-eq-default part 0 (omega (arith, length-back)) ∙ sym (events-none x i (omega arith))
   ]
 
-  field-at : (j k : ℕ) → j < mostEvents → k < eventSize → byte part (eventSize * j + k) ≡ getD (eventBytes (eventOf x j)) k 0
+  field-at : (j k : ℕ) → j < mostEvents → k < eventSize
+      → byte part (eventSize * j + k) ≡ getD (eventBytes (eventOf x j)) k 0
   field-at j k l h = read-at (eventSize * j + k) (omega arith) ∙ event-byte x (eventSize * j + k) j k refl h
 
   event-back : (j : ℕ) → j < mostEvents → eventIn part j ≡ eventOf x j
@@ -99,7 +104,7 @@ module _ (x : Events) (index : ℕ) (free : EventsFree x index) where
       let t : word part (eventSize * j + 4) ≡ e .tick = omega (arith, f, g) in
       rw (a, b, d, t)
 
-  pub block-back : eventsRead part ≡ kept x
+  block-back : eventsRead part ≡ kept x
   unfolding eventsRead kept eventCount
   block-back =
       let n : length part / eventSize ≡ x .count = omega (arith, length-back) in
@@ -120,10 +125,12 @@ events-accepted x index out h = rw (written x index out h) (block-accepted x ind
 
 pub events-back : EventsBack
 unfolding blockOfEvents
-events-back x index out h = rw (written x index out h, block-accepted x index (free x index out h)) (block-back x index (free x index out h))
+events-back x index out h =
+    rw (written x index out h, block-accepted x index (free x index out h)) (block-back x index (free x index out h))
 
 pub each-event-back : EachEventBack
 unfolding blockOfEvents
 each-event-back x index out h i l =
     let f = free x index out h in
-    rw (written x index out h, block-accepted x index f) (event-back x index f i (omega (arith, f .few)) ∙ event-kept x i l)
+    rw (written x index out h, block-accepted x index f)
+    (event-back x index f i (omega (arith, f .few)) ∙ event-kept x i l)

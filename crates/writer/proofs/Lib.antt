@@ -4,6 +4,7 @@ pub mod EventPlaces
 pub mod EventsBack
 pub mod EventsSame
 pub mod Few
+pub mod Numbers
 pub mod Reading
 pub mod SetUpBack
 pub mod SetUpPlaces

@@ -1,21 +1,21 @@
--- What the reader asks of a block, as statements: such a block is accepted, and an accepted block is such; and the bytes of its used
--- part. Assumes nothing.
+-- What the reader asks of a block, as statements: such a block is accepted, and an accepted block is such; and the
+-- bytes of its used part. Assumes nothing.
 use Prim.Native.Nat.{ℕ, _+_, _-_, _%_, _<_, _≤_}
-use mathlib.Core.Path.{_≡_, sym, ap, _∙_}
+use mathlib.Core.Path.{_≡_, ap, _∙_}
 use mathlib.Core.Bool.{true, false, not, _||_}
 use mathlib.Core.List.{List}
 use native.Mathlib.Omega.{arith}
 use lib.Dec.{ltb}
-use lib.ListN.{length, getD, drop, length-drop}
-use lib.Seq.{getD-drop, getD-take, length-take-le}
+use lib.ListN.{length, getD}
+use lib.Seq.{getD-drop, getD-take}
 use Rattle.search.specs.Words.{_isn't_}
 use Rattle.search.proofs.Tests.{tests}
 use Rattle.search.specs.Numbered.{NoneApplies}
 use Rattle.input.specs.Layout.{byte, word}
 use Rattle.input.specs.Words.{within}
-use Rattle.blocks.specs.Sizes.{kindAt, payloadAt, payloadSize, blockSize, lastIndex, numbers}
+use Rattle.blocks.specs.Sizes.{kindAt, payloadAt, blockSize, lastIndex, numbers}
 use Rattle.blocks.specs.Check.{isChecked}
-use Rattle.blocks.specs.Verdicts.{kindFor, mostFor, payload, count, isFilled, usedSize, isFirst, isBlank, blockRows, verdict, usedPart, numberOf, lengthOf}
+use Rattle.blocks.specs.Verdicts.{kindFor, mostFor, payload, count, isFilled, usedSize, isFirst, isBlank, blockRows, verdict, usedPart, numberOf}
 use Rattle.blocks.specs.declared.Verdict.the-variants.{Used}
 use Rattle.blocks.specs.OneByte.{AreBytes}
 use Rattle.blocks.proofs.Numbers.{judge-none}
@@ -37,7 +37,8 @@ module _ (block : List ℕ) (index : ℕ) where
   right-accepted r =
       let r30 : (length block isn't blockSize) ≡ false = simp tests (r .size) in
       let r31 : not (isChecked block) ≡ false = rw (r .checked) in
-      let r32 : (word block 0 isn't index % numbers || ltb lastIndex index) ≡ false = simp tests (r .number, r .inside) in
+      let r32 : (word block 0 isn't index % numbers || ltb lastIndex index) ≡ false =
+      simp tests (r .number, r .inside) in
       let r33 : (byte block kindAt isn't kindFor (isFirst block index)) ≡ false = simp tests (r .kind) in
       let r34 : not (within 1 (count block) (mostFor (isFirst block index))) ≡ false = simp tests (r .counted) in
       let r35 : not (isFilled block (isFirst block index)) ≡ false = rw (r .filled) in
@@ -61,11 +62,9 @@ module _ (block : List ℕ) (index : ℕ) where
           filled = simp tests at (none 5 (omega arith));
         }
 
-    pub accepted-size : n ≡ usedSize block (isFirst block index)
-    accepted-size = ap lengthOf (sym used ∙ right-accepted accepted-right)
-
 -- its head is the one that is written
-pub head-same : (block : List ℕ) (index : ℕ) → AreBytes block → Right block index → (k n : ℕ) → kindFor (isFirst block index) ≡ k → count block ≡ n
+pub head-same : (block : List ℕ) (index : ℕ) → AreBytes block → Right block index → (k n : ℕ)
+    → kindFor (isFirst block index) ≡ k → count block ≡ n
     → (i : ℕ) → i < payloadAt → byte block i ≡ getD (headOf index k n) i 0
 head-same block index bytes r k n kind counts =
     let low-byte : byte block 0 < 256 = bytes 0 in
@@ -87,9 +86,5 @@ module _ (block : List ℕ) (from to : ℕ) where
   blank-of f = simp tests (λ i l. f (from + i) (omega arith) (omega arith))
 
 -- ---- the used part
-module _ (block : List ℕ) (n : ℕ) where
-  pub part-at : (i : ℕ) → i < n → byte (usedPart block (Used n)) i ≡ payload block i
-  part-at i h = rw (getD-take, getD-drop)
-
-  pub part-length : length block ≡ blockSize → n ≤ payloadSize → length (usedPart block (Used n)) ≡ n
-  part-length s l = length-take-le n (drop payloadAt block) (omega (arith, length-drop payloadAt block))
+pub part-at : (block : List ℕ) (n i : ℕ) → i < n → byte (usedPart block (Used n)) i ≡ payload block i
+part-at block n i h = rw (getD-take, getD-drop)

@@ -26,19 +26,19 @@ use Rattle.writer.proofs.SetUpPlaces.{payload-at, at-counts, at-start, 
 
 -- what is 0 past a count, of a clear set-up
 module _ (c : SetUp) (clear : isClear c ≡ true) where
-  pub period-none : (t : ℕ) → c .tasks ≤ t → t < mostTasks → period c t ≡ 0
+  period-none : (t : ℕ) → c .tasks ≤ t → t < mostTasks → period c t ≡ 0
   unfolding isClear emptyFrom
   period-none t l h = (simp tests at clear) .0 .0 .0 t h l
 
-  pub kind-none : (r : ℕ) → c .resources ≤ r → r < mostResources → kind c r ≡ 0
+  kind-none : (r : ℕ) → c .resources ≤ r → r < mostResources → kind c r ≡ 0
   unfolding isClear emptyFrom
   kind-none r l h = (simp tests at clear) .0 .0 .1 r h l
 
-  pub outer-none : (i : ℕ) → c .pairs ≤ i → i < mostPairs → outerOf c i ≡ 0
+  outer-none : (i : ℕ) → c .pairs ≤ i → i < mostPairs → outerOf c i ≡ 0
   unfolding isClear emptyFrom
   outer-none i l h = (simp tests at clear) .0 .1 i h l
 
-  pub inner-none : (i : ℕ) → c .pairs ≤ i → i < mostPairs → innerOf c i ≡ 0
+  inner-none : (i : ℕ) → c .pairs ≤ i → i < mostPairs → innerOf c i ≡ 0
   unfolding isClear emptyFrom
   inner-none i l h = (simp tests at clear) .1 i h l
 
@@ -54,7 +54,8 @@ module _ (d : SetUp) (clear : isClear d ≡ true) where
   load-at : (i : ℕ) → i < payloadSize → payload block i ≡ setUpByte d i
   load-at i h = sealed-payload (headOf 0 setUpBlock 1) (setUpPayload d) i h ∙ payload-at d i h
 
-  count-at : (payload block 0 ≡ d .processors) × (payload block 1 ≡ d .tasks) × (payload block 2 ≡ d .resources) × (payload block 3 ≡ d .pairs)
+  count-at : (payload block 0 ≡ d .processors) × (payload block 1 ≡ d .tasks)
+      × (payload block 2 ≡ d .resources) × (payload block 3 ≡ d .pairs)
   count-at = (
     load-at 0 (omega arith) ∙ at-counts d 0 (omega arith),
     load-at 1 (omega arith) ∙ at-counts d 1 (omega arith),
@@ -64,11 +65,15 @@ module _ (d : SetUp) (clear : isClear d ≡ true) where
 
   periods-blank : (i : ℕ) → periodsAt + 2 * d .tasks ≤ i → i < kindsAt → payload block i ≡ 0
   periods-blank i l h =
-      let z : period d ((i - periodsAt) / 2) ≡ 0 = period-none d clear ((i - periodsAt) / 2) (omega arith) (omega arith) in
-      load-at i (omega arith) ∙ at-periods d i (omega arith) h ∙ either-none ((i - periodsAt) % 2 is 0) _ _ (rw z) (rw z)
+      let z : period d ((i - periodsAt) / 2) ≡ 0 =
+      period-none d clear ((i - periodsAt) / 2) (omega arith) (omega arith) in
+      load-at i (omega arith) ∙ at-periods d i (omega arith) h
+      ∙ either-none ((i - periodsAt) % 2 is 0) _ _ (rw z) (rw z)
 
   kinds-blank : (i : ℕ) → kindsAt + d .resources ≤ i → i < pairsAt → payload block i ≡ 0
-  kinds-blank i l h = load-at i (omega arith) ∙ at-kinds d i (omega arith) h ∙ kind-none d clear (i - kindsAt) (omega arith) (omega arith)
+  kinds-blank i l h =
+      load-at i (omega arith) ∙ at-kinds d i (omega arith) h
+      ∙ kind-none d clear (i - kindsAt) (omega arith) (omega arith)
 
   pairs-blank : (i : ℕ) → pairsAt + 2 * d .pairs ≤ i → i < setUpSize → payload block i ≡ 0
   pairs-blank i l h =
@@ -80,24 +85,34 @@ module _ (d : SetUp) (clear : isClear d ≡ true) where
   unfolding isSetUpFilled
   filled =
       let z = count-at in
-      let periods : isBlank block (periodsAt + 2 * payload block 1) kindsAt ≡ true = blank-of block _ _ (λ i l h. periods-blank i (omega arith) h) in
-      let kinds : isBlank block (kindsAt + payload block 2) pairsAt ≡ true = blank-of block _ _ (λ i l h. kinds-blank i (omega arith) h) in
-      let pairs : isBlank block (pairsAt + 2 * payload block 3) setUpSize ≡ true = blank-of block _ _ (λ i l h. pairs-blank i (omega arith) h) in
-      let rest : isBlank block setUpSize payloadSize ≡ true = blank-of block _ _ (λ i l h. load-at i h ∙ at-rest d i l) in
+      let periods : isBlank block (periodsAt + 2 * payload block 1) kindsAt ≡ true =
+      blank-of block _ _ (λ i l h. periods-blank i (omega arith) h) in
+      let kinds : isBlank block (kindsAt + payload block 2) pairsAt ≡ true =
+      blank-of block _ _ (λ i l h. kinds-blank i (omega arith) h) in
+      let pairs : isBlank block (pairsAt + 2 * payload block 3) setUpSize ≡ true =
+      blank-of block _ _ (λ i l h. pairs-blank i (omega arith) h) in
+      let rest : isBlank block setUpSize payloadSize ≡ true =
+      blank-of block _ _ (λ i l h. load-at i h ∙ at-rest d i l) in
       rw (periods, kinds, pairs, rest)
 
   right : Right block 0
   right = record {
     size = sealed-length (headOf 0 setUpBlock 1) (setUpPayload d);
     checked = sealed-checked (headOf 0 setUpBlock 1) (setUpPayload d);
-    number = rw (sealed-head (headOf 0 setUpBlock 1) (setUpPayload d) 0 (omega arith), sealed-head (headOf 0 setUpBlock 1) (setUpPayload d) 1 (omega arith));
+    number =
+        rw (
+          sealed-head (headOf 0 setUpBlock 1) (setUpPayload d) 0 (omega arith),
+          sealed-head (headOf 0 setUpBlock 1) (setUpPayload d) 1 (omega arith),
+        );
     inside = omega arith;
     kind = sealed-head (headOf 0 setUpBlock 1) (setUpPayload d) 2 (omega arith);
-    counted = let e = sealed-head (headOf 0 setUpBlock 1) (setUpPayload d) 3 (omega arith) in (omega (arith, e), omega (arith, e));
+    counted =
+        let e = sealed-head (headOf 0 setUpBlock 1) (setUpPayload d) 3 (omega arith) in
+        (omega (arith, e), omega (arith, e));
     filled = filled;
   }
 
-  pub block-accepted : verdict block 0 ≡ Used setUpSize
+  block-accepted : verdict block 0 ≡ Used setUpSize
   block-accepted = right-accepted block 0 right
 
   -- ---- what is read of it
@@ -110,25 +125,32 @@ module _ (d : SetUp) (clear : isClear d ≡ true) where
   start-back : startIn part ≡ d .start
   unfolding startIn
   start-back =
-      let a : byte part 4 ≡ low (d .start % 65536) = read-at 4 (omega arith) ∙ at-start d 4 (omega arith) (omega arith) in
-      let b : byte part 5 ≡ high (d .start % 65536) = read-at 5 (omega arith) ∙ at-start d 5 (omega arith) (omega arith) in
-      let e : byte part 6 ≡ low (d .start / 65536) = read-at 6 (omega arith) ∙ at-start d 6 (omega arith) (omega arith) in
-      let f : byte part 7 ≡ high (d .start / 65536) = read-at 7 (omega arith) ∙ at-start d 7 (omega arith) (omega arith) in
+      let a : byte part 4 ≡ low (d .start % 65536) =
+      read-at 4 (omega arith) ∙ at-start d 4 (omega arith) (omega arith) in
+      let b : byte part 5 ≡ high (d .start % 65536) =
+      read-at 5 (omega arith) ∙ at-start d 5 (omega arith) (omega arith) in
+      let e : byte part 6 ≡ low (d .start / 65536) =
+      read-at 6 (omega arith) ∙ at-start d 6 (omega arith) (omega arith) in
+      let f : byte part 7 ≡ high (d .start / 65536) =
+      read-at 7 (omega arith) ∙ at-start d 7 (omega arith) (omega arith) in
       omega (arith, a, b, e, f)
 
   module _ (s : Sized d) where
     periods-back : periodsIn part ≡ d .periods
     unfolding periodsIn
     periods-back = sym (table-of (λ t. word part (periodsAt + 2 * t)) (d .periods) mostTasks 0 (s .periods) (λ t h.
-        let a : byte part (periodsAt + 2 * t) ≡ low (period d t) = read-at (periodsAt + 2 * t) (omega arith) ∙ period-low d (periodsAt + 2 * t) t h refl in
-        let b : byte part (periodsAt + 2 * t + 1) ≡ high (period d t) = read-at (periodsAt + 2 * t + 1) (omega arith) ∙ period-high d (periodsAt + 2 * t + 1) t h refl in
+        let a : byte part (periodsAt + 2 * t) ≡ low (period d t) =
+        read-at (periodsAt + 2 * t) (omega arith) ∙ period-low d (periodsAt + 2 * t) t h refl in
+        let b : byte part (periodsAt + 2 * t + 1) ≡ high (period d t) =
+        read-at (periodsAt + 2 * t + 1) (omega arith) ∙ period-high d (periodsAt + 2 * t + 1) t h refl in
         omega (arith, a, b)))
 
     kinds-back : kindsIn part ≡ d .kinds
     unfolding kindsIn
     kinds-back = sym (table-of (λ r. byte part (kindsAt + r)) (d .kinds) mostResources 0 (s .kinds) (λ r h.
         let e : kindsAt + r - kindsAt ≡ r = omega arith in
-        sym (read-at (kindsAt + r) (omega arith) ∙ at-kinds d (kindsAt + r) (omega arith) (omega arith) ∙ ap (kind d) e)))
+        sym (read-at (kindsAt + r) (omega arith) ∙ at-kinds d (kindsAt + r) (omega arith) (omega arith)
+        ∙ ap (kind d) e)))
 
     outer-back : sideIn part 0 ≡ d .outer
     unfolding sideIn
@@ -140,7 +162,7 @@ module _ (d : SetUp) (clear : isClear d ≡ true) where
     inner-back = sym (table-of (λ i. byte part (pairsAt + 2 * i + 1)) (d .inner) mostPairs 0 (s .inner) (λ i h.
         sym (read-at (pairsAt + 2 * i + 1) (omega arith) ∙ pair-inner d (pairsAt + 2 * i + 1) i h refl)))
 
-    pub block-back : setUpIn part ≡ d
+    block-back : setUpIn part ≡ d
     unfolding setUpIn
     block-back =
         let p0 : byte part 0 ≡ d .processors = part-at block setUpSize 0 (omega arith) ∙ count-at .0 in
@@ -155,4 +177,5 @@ set-up-accepted c out h = rw h (block-accepted (cleared c) (cleared-clear c))
 
 pub set-up-back : SetUpBack
 unfolding setUpWritten blockOfSetUp
-set-up-back c out h = rw (h, block-accepted (cleared c) (cleared-clear c)) (block-back (cleared c) (cleared-clear c) (cleared-sized c))
+set-up-back c out h =
+    rw (h, block-accepted (cleared c) (cleared-clear c)) (block-back (cleared c) (cleared-clear c) (cleared-sized c))

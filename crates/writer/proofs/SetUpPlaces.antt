@@ -33,15 +33,30 @@ module _ (c : SetUp) where
 
     pub at-kinds : kindsAt ≤ i → i < pairsAt → setUpByte c i ≡ kind c (i - kindsAt)
     unfolding setUpByte
-    at-kinds l h = rw (le-ltb i startAt (omega arith), le-ltb i periodsAt (omega arith), le-ltb i kindsAt l, lt-ltb i pairsAt h)
+    at-kinds l h =
+        rw (le-ltb i startAt (omega arith), le-ltb i periodsAt (omega arith), le-ltb i kindsAt l, lt-ltb i pairsAt h)
 
     pub at-pairs : pairsAt ≤ i → i < setUpSize → setUpByte c i ≡ pairByte c (i - pairsAt)
     unfolding setUpByte
-    at-pairs l h = rw (le-ltb i startAt (omega arith), le-ltb i periodsAt (omega arith), le-ltb i kindsAt (omega arith), le-ltb i pairsAt l, lt-ltb i setUpSize h)
+    at-pairs l h =
+        rw (
+          le-ltb i startAt (omega arith),
+          le-ltb i periodsAt (omega arith),
+          le-ltb i kindsAt (omega arith),
+          le-ltb i pairsAt l,
+          lt-ltb i setUpSize h,
+        )
 
     pub at-rest : setUpSize ≤ i → setUpByte c i ≡ 0
     unfolding setUpByte
-    at-rest l = rw (le-ltb i startAt (omega arith), le-ltb i periodsAt (omega arith), le-ltb i kindsAt (omega arith), le-ltb i pairsAt (omega arith), le-ltb i setUpSize l)
+    at-rest l =
+        rw (
+          le-ltb i startAt (omega arith),
+          le-ltb i periodsAt (omega arith),
+          le-ltb i kindsAt (omega arith),
+          le-ltb i pairsAt (omega arith),
+          le-ltb i setUpSize l,
+        )
 
   -- ---- the tables of two bytes a place
   module _ (i t : ℕ) where

@@ -1,4 +1,5 @@
--- A block of bytes that the reader accepts, its set-up being free of 1 to 5, is written again to the byte. Assumes nothing.
+-- A block of bytes that the reader accepts, its set-up being free of 1 to 5, is written again to the byte. Assumes
+-- nothing.
 use Prim.Native.Nat.{ℕ, _+_, _-_, _*_, _/_, _%_, _<_, _≤_}
 use mathlib.Core.Path.{_≡_, refl, sym, _∙_}
 use mathlib.Core.Bool.{true}
@@ -20,6 +21,7 @@ use Rattle.blocks.specs.Sizes.{payloadSize, payloadAt, setUpBlock}
 use Rattle.blocks.specs.OneByte.{AreBytes}
 use Rattle.blocks.specs.Verdicts.{payload, count, isBlank, isSetUpFilled, verdict, usedPart}
 use Rattle.blocks.specs.declared.Verdict.the-variants.{Used}
+use Rattle.blocks.proofs.Limits.{used-size}
 use Rattle.writer.specs.Sealed.{low, high, headOf}
 use Rattle.writer.specs.Written.{lentRows}
 use Rattle.writer.specs.SetUpBlocks.{countBytes, startBytes, setUpByte, setUpPayload, blockOfSetUp, setUpWritten}
@@ -27,7 +29,7 @@ use Rattle.writer.specs.RoundTrip.{SetUpSame}
 use Rattle.writer.proofs.Answers.{lent-zero, written-zero}
 use Rattle.writer.proofs.Few.{below-four}
 use Rattle.writer.proofs.Checked.{sealed-same}
-use Rattle.writer.proofs.Reading.{Right, accepted-right, accepted-size, head-same, blank-at, part-at}
+use Rattle.writer.proofs.Reading.{Right, accepted-right, head-same, blank-at, part-at}
 use Rattle.writer.proofs.SetUpPlaces.{payload-at, at-counts, at-start, at-kinds, at-rest, period-low, period-high, pair-outer, pair-inner}
 
 bytes-of : (n x y : ℕ) → x < 256 → n ≡ x + 256 * y → (low n ≡ x) × (high n ≡ y)
@@ -48,16 +50,20 @@ module _ (b : List ℕ) (n : ℕ) (bytes : AreBytes b) (used : verdict b 0 ≡ U
   well = accepted-right b 0 n used
 
   at : (i : ℕ) → i < setUpSize → byte read i ≡ payload b i
-  at i h = part-at b n i (omega (arith, accepted-size b 0 n used))
+  at i h = part-at b n i (omega (arith, used-size b 0 n used))
 
-  counts : (c .processors ≡ payload b 0) × (c .tasks ≡ payload b 1) × (c .resources ≡ payload b 2) × (c .pairs ≡ payload b 3)
+  counts : (c .processors ≡ payload b 0) × (c .tasks ≡ payload b 1)
+      × (c .resources ≡ payload b 2) × (c .pairs ≡ payload b 3)
   unfolding setUpIn
   counts = (at 0 (omega arith), at 1 (omega arith), at 2 (omega arith), at 3 (omega arith))
 
   -- what the tables hold
-  period-in : (t : ℕ) → t < mostTasks → period c t ≡ payload b (periodsAt + 2 * t) + 256 * payload b (periodsAt + 2 * t + 1)
+  period-in : (t : ℕ) → t < mostTasks
+      → period c t ≡ payload b (periodsAt + 2 * t) + 256 * payload b (periodsAt + 2 * t + 1)
   unfolding setUpIn periodsIn
-  period-in t h = table-at (λ t. word read (periodsAt + 2 * t)) mostTasks t 0 h ∙ rw (at (periodsAt + 2 * t) (omega arith), at (periodsAt + 2 * t + 1) (omega arith))
+  period-in t h =
+      table-at (λ t. word read (periodsAt + 2 * t)) mostTasks t 0 h
+      ∙ rw (at (periodsAt + 2 * t) (omega arith), at (periodsAt + 2 * t + 1) (omega arith))
 
   kind-in : (r : ℕ) → r < mostResources → kind c r ≡ payload b (kindsAt + r)
   unfolding setUpIn kindsIn
@@ -65,11 +71,13 @@ module _ (b : List ℕ) (n : ℕ) (bytes : AreBytes b) (used : verdict b 0 ≡ U
 
   outer-in : (i : ℕ) → i < mostPairs → outerOf c i ≡ payload b (pairsAt + 2 * i + 0)
   unfolding setUpIn sideIn
-  outer-in i h = table-at (λ i. byte read (pairsAt + 2 * i + 0)) mostPairs i 0 h ∙ at (pairsAt + 2 * i + 0) (omega arith)
+  outer-in i h =
+      table-at (λ i. byte read (pairsAt + 2 * i + 0)) mostPairs i 0 h ∙ at (pairsAt + 2 * i + 0) (omega arith)
 
   inner-in : (i : ℕ) → i < mostPairs → innerOf c i ≡ payload b (pairsAt + 2 * i + 1)
   unfolding setUpIn sideIn
-  inner-in i h = table-at (λ i. byte read (pairsAt + 2 * i + 1)) mostPairs i 0 h ∙ at (pairsAt + 2 * i + 1) (omega arith)
+  inner-in i h =
+      table-at (λ i. byte read (pairsAt + 2 * i + 1)) mostPairs i 0 h ∙ at (pairsAt + 2 * i + 1) (omega arith)
 
   sized : Sized c
   unfolding setUpIn periodsIn kindsIn sideIn
@@ -94,7 +102,10 @@ module _ (b : List ℕ) (n : ℕ) (bytes : AreBytes b) (used : verdict b 0 ≡ U
       simp tests (
         (
           (
-            (λ t h l. period-in t h ∙ rw (blank-at b _ _ (blank .0) (periodsAt + 2 * t) (omega arith) (omega arith), blank-at b _ _ (blank .0) (periodsAt + 2 * t + 1) (omega arith) (omega arith))),
+            (λ t h l.
+                let first = blank-at b _ _ (blank .0) (periodsAt + 2 * t) (omega arith) (omega arith) in
+                let second = blank-at b _ _ (blank .0) (periodsAt + 2 * t + 1) (omega arith) (omega arith) in
+                period-in t h ∙ rw (first, second)),
             (λ r h l. kind-in r h ∙ blank-at b _ _ (blank .1) (kindsAt + r) (omega arith) (omega arith)),
           ),
           (λ i h l. outer-in i h ∙ blank-at b _ _ (blank .2) (pairsAt + 2 * i + 0) (omega arith) (omega arith)),
@@ -113,7 +124,8 @@ module _ (b : List ℕ) (n : ℕ) (bytes : AreBytes b) (used : verdict b 0 ≡ U
       let b4 : payload b 4 < 256 = bytes (payloadAt + 4) in
       let b5 : payload b 5 < 256 = bytes (payloadAt + 5) in
       let b6 : payload b 6 < 256 = bytes (payloadAt + 6) in
-      let halves = split (c .start) (payload b 4 + 256 * payload b 5) (payload b 6 + 256 * payload b 7) (omega arith) e in
+      let halves =
+      split (c .start) (payload b 4 + 256 * payload b 5) (payload b 6 + 256 * payload b 7) (omega arith) e in
       let first = bytes-of (c .start % 65536) (payload b 4) (payload b 5) b4 (halves .0) in
       let second = bytes-of (c .start / 65536) (payload b 6) (payload b 7) b6 (halves .1) in
       below-four (λ k. getD (startBytes c) k 0 ≡ payload b (startAt + k)) (first .0) (first .1) (second .0) (second .1)
@@ -148,7 +160,9 @@ module _ (b : List ℕ) (n : ℕ) (bytes : AreBytes b) (used : verdict b 0 ≡ U
 
   byte-same : (i : ℕ) → i < payloadSize → setUpByte c i ≡ payload b i
   byte-same i h = elim (decLt i startAt) [
-    | yes l ↦ at-counts c i l ∙ below-four (λ k. getD (countBytes c) k 0 ≡ payload b k) (counts .0) (counts .1) (counts .2) (counts .3) i l
+    | yes l ↦
+        at-counts c i l
+        ∙ below-four (λ k. getD (countBytes c) k 0 ≡ payload b k) (counts .0) (counts .1) (counts .2) (counts .3) i l
     | no d0 ↦ elim (decLt i periodsAt) [
       | yes l ↦
           let e : startAt + (i - startAt) ≡ i = omega arith in
@@ -181,4 +195,5 @@ pub set-up-same : SetUpSame
 unfolding setUpWritten setUpRefusal
 set-up-same b n bytes used free out size =
     let c = setUpIn (usedPart b (Used n)) in
-    written-zero (lentRows out (setUpRows c)) (blockOfSetUp c) out (lent-zero out (setUpRows c) size free) ∙ rw (again b n bytes used)
+    written-zero (lentRows out (setUpRows c)) (blockOfSetUp c) out (lent-zero out (setUpRows c) size free)
+    ∙ rw (again b n bytes used)

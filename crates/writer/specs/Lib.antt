@@ -1,4 +1,5 @@
 pub mod EventBlocks
+pub mod Numbers
 pub mod RoundTrip
 pub mod Sealed
 pub mod SetUpBlocks

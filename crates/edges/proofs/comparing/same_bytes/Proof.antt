@@ -1,14 +1,13 @@
 use borrow.Author.Needs.{needs}
-use Prim.Native.Nat.{_≤_, _-_}
-use Rattle.input.specs.Limits.{mostPairs}
+use Prim.Native.Nat.{_-_}
 use Rattle.edges.proofs.comparing.same_bytes.Statement.{statement}
 use Rattle.edges.proofs.comparing.same_bytes.Tie as tie
 
 abbrev Inv-loop : tie.InvT-loop
-Inv-loop a b same₀ i₀ same i = i ≤ mostPairs
+Inv-loop a b same₀ i₀ i-end same i = Unit {0}
 
 abbrev μ-loop : tie.MeasureT-loop
-μ-loop a b same₀ i₀ same i = mostPairs - i
+μ-loop a b same₀ i₀ i-end same i = i-end - i
 
 loop-holds : tie.Need-loop-holds Inv-loop μ-loop
 loop-holds c = search needs

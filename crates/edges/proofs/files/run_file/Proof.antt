@@ -1,12 +1,13 @@
 use borrow.Author.Needs.{needs}
+use Prim.Native.Nat.{_-_}
 use Rattle.edges.proofs.files.run_file.Statement.{statement}
 use Rattle.edges.proofs.files.run_file.Tie as tie
 
 abbrev Inv-loop : tie.InvT-loop
-Inv-loop len session₀ left₀ turns₀ session left turns = Unit {0}
+Inv-loop len walk₀ left₀ turns index₀ walk left index = Unit {0}
 
 abbrev μ-loop : tie.MeasureT-loop
-μ-loop len session₀ left₀ turns₀ session left turns = turns
+μ-loop len walk₀ left₀ turns index₀ walk left index = turns - index
 
 begin-requires : tie.Need-begin-requires Inv-loop μ-loop
 begin-requires c κs = search needs
@@ -23,14 +24,17 @@ take-block-of-requires c κs = search needs
 left-behind-requires : tie.Need-left-behind-requires Inv-loop μ-loop
 left-behind-requires c κs = search needs
 
-sub-turns : tie.Need-sub-turns Inv-loop μ-loop
-sub-turns c = search needs
+add-index : tie.Need-add-index Inv-loop μ-loop
+add-index c = search needs
 
 loop-less : tie.Need-loop-less Inv-loop μ-loop
 loop-less c = search needs
 
 loop-again : tie.Need-loop-again Inv-loop μ-loop
 loop-again c = search needs
+
+tell-again-requires : tie.Need-tell-again-requires Inv-loop μ-loop
+tell-again-requires c κs = search needs
 
 returns : tie.Need-returns Inv-loop μ-loop
 returns c = search needs
@@ -46,7 +50,8 @@ run-file-spec =
     loop-holds
     take-block-of-requires
     left-behind-requires
-    sub-turns
+    add-index
     loop-less
     loop-again
+    tell-again-requires
     returns)

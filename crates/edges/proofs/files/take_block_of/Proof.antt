@@ -18,6 +18,18 @@ part-block-end c = ⊎-elim (λ x. omega arith) (λ x. omega arith) (c .before .
 read-full-requires : tie.Need-read-full-requires
 read-full-requires c κs = search needs
 
+sub-count-again : tie.Need-sub-count-again
+sub-count-again c = search needs
+
+part-count-again-start : tie.Need-part-count-again-start
+part-count-again-start c = search needs
+
+part-count-again-end : tie.Need-part-count-again-end
+part-count-again-end c = simp length-append (omega (arith, c .before .before .read-full .ensures))
+
+count-again-requires : tie.Need-count-again-requires
+count-again-requires c κs = search needs
+
 sub-write-page : tie.Need-sub-write-page
 sub-write-page c = search needs
 
@@ -25,7 +37,7 @@ part-write-page-start : tie.Need-part-write-page-start
 part-write-page-start c = search needs
 
 part-write-page-end : tie.Need-part-write-page-end
-part-write-page-end c = simp length-append (omega (arith, c .before .before .read-full .ensures))
+part-write-page-end c = simp length-append (omega (arith, c .before .before .before .before .before .read-full .ensures))
 
 write-page-requires : tie.Need-write-page-requires
 write-page-requires c κs = search needs
@@ -41,6 +53,10 @@ take-block-of-spec =
     part-block-start
     part-block-end
     read-full-requires
+    sub-count-again
+    part-count-again-start
+    part-count-again-end
+    count-again-requires
     sub-write-page
     part-write-page-start
     part-write-page-end

@@ -43,7 +43,8 @@ loop-again : tie.Need-loop-again Inv-loop μ-loop
 loop-again c =
     let s = c .before .before .before .before .args in
     let o = c .before .before .loop in
-    (search needs, rw (o .inv .1, c .event-at .ensures) (table-turn (eventIn (s .part .now)) (replicate mostEvents noEvent) (o .i) (search needs)))
+    let turn = table-turn (eventIn (s .part .now)) (replicate mostEvents noEvent) (o .i) (search needs) in
+    (search needs, rw (o .inv .1, c .event-at .ensures) turn)
 
 returns : tie.Need-returns Inv-loop μ-loop
 returns c =

@@ -19,14 +19,16 @@ returns : tie.Need-returns
 returns c =
     let s = c .before .before .before .before .args in
     let a = c .before .row in
-    let given : a .result ≡ firstOf (lentRows (s .out .now) (eventRows (s .events) (s .index))) = rw (c .before .before .refusal-of .ensures) at (a .ensures) in
+    let given : a .result ≡ firstOf (lentRows (s .out .now) (eventRows (s .events) (s .index))) =
+    rw (c .before .before .refusal-of .ensures) at (a .ensures) in
     events-refused (s .events) (s .index) (s .out .now) (a .result) given (c .if1 .taken)
 
 cast-head-of : tie.Need-cast-head-of
 cast-head-of c =
     let s = c .before .before .before .before .before .args in
     let a = c .before .before .row in
-    let given : a .result ≡ firstOf (lentRows (s .out .now) (eventRows (s .events) (s .index))) = rw (c .before .before .before .refusal-of .ensures) at (a .ensures) in
+    let given : a .result ≡ firstOf (lentRows (s .out .now) (eventRows (s .events) (s .index))) =
+    rw (c .before .before .before .refusal-of .ensures) at (a .ensures) in
     omega (arith, events-counted (s .events) (s .index) (s .out .now) (a .result) given (c .before .if1 .left))
 
 head-of-requires : tie.Need-head-of-requires
@@ -43,10 +45,12 @@ slice-aggregate-put-block-2 c = search needs
 
 put-block-requires : tie.Need-put-block-requires
 put-block-requires c κs =
-    let s = c .before .before .before .before .before .before .before .before .before .before .args in
-    let a = c .before .before .before .before .before .before .before .row in
-    let given : a .result ≡ firstOf (lentRows (s .out .now) (eventRows (s .events) (s .index))) = rw (c .before .before .before .before .before .before .before .before .refusal-of .ensures) at (a .ensures) in
-    events-lent (s .events) (s .index) (s .out .now) (a .result) given (c .before .before .before .before .before .before .if1 .left)
+    let d = c .before .before .before .before .before .before in
+    let s = d .before .before .before .before .args in
+    let a = d .before .row in
+    let given : a .result ≡ firstOf (lentRows (s .out .now) (eventRows (s .events) (s .index))) =
+    rw (d .before .before .refusal-of .ensures) at (a .ensures) in
+    events-lent (s .events) (s .index) (s .out .now) (a .result) given (d .if1 .left)
 
 same-length : tie.Need-same-length
 same-length c = search needs
@@ -54,10 +58,14 @@ same-length c = search needs
 returns-2 : tie.Need-returns-2
 unfolding blockOfEvents
 returns-2 c =
-    let s = c .before .before .before .before .before .before .before .before .before .before .before .before .before .args in
-    let a = c .before .before .before .before .before .before .before .before .before .before .row in
-    let given : a .result ≡ firstOf (lentRows (s .out .now) (eventRows (s .events) (s .index))) = rw (c .before .before .before .before .before .before .before .before .before .before .before .refusal-of .ensures) at (a .ensures) in
-    rw (c .before .before .put-block .ensures, c .before .before .before .before .before .before .events-payload .ensures, c .before .before .before .before .before .before .before .head-of .ensures) (events-done (s .events) (s .index) (s .out .now) (a .result) given (c .before .before .before .before .before .before .before .before .before .if1 .left))
+    let p = c .before .before .before .before .before .before in
+    let d = p .before .before .before in
+    let s = d .before .before .before .before .args in
+    let a = d .before .row in
+    let given : a .result ≡ firstOf (lentRows (s .out .now) (eventRows (s .events) (s .index))) =
+    rw (d .before .before .refusal-of .ensures) at (a .ensures) in
+    rw (c .before .before .put-block .ensures, p .events-payload .ensures, p .before .head-of .ensures)
+    (events-done (s .events) (s .index) (s .out .now) (a .result) given (d .if1 .left))
 
 pub write-events-spec : {M : Type 1} → statement M
 write-events-spec =

@@ -18,12 +18,14 @@ check-of-requires c κs = search needs
 
 cast-first : tie.Need-cast-first
 cast-first c =
-    let z : (c .before .check-of .result .first < modulus) × (c .before .check-of .result .second < modulus) = rw (c .before .check-of .ensures) (sums-below _ words) in
+    let k = c .before .check-of in
+    let z : (k .result .first < modulus) × (k .result .second < modulus) = rw (k .ensures) (sums-below _ words) in
     omega (arith, z)
 
 cast-second : tie.Need-cast-second
 cast-second c =
-    let z : (c .before .before .check-of .result .first < modulus) × (c .before .before .check-of .result .second < modulus) = rw (c .before .before .check-of .ensures) (sums-below _ words) in
+    let k = c .before .before .check-of in
+    let z : (k .result .first < modulus) × (k .result .second < modulus) = rw (k .ensures) (sums-below _ words) in
     omega (arith, z)
 
 low-requires : tie.Need-low-requires
@@ -64,8 +66,18 @@ same-length c = search needs
 
 returns : tie.Need-returns
 returns c =
-    let s = c .before .before .before .before .before .before .before .before .before .before .before .before .before .before .before .args in
-    rw (c .high2 .ensures, c .before .low2 .ensures, c .before .before .high .ensures, c .before .before .before .low .ensures, c .before .before .before .before .before .before .before .before .before .before .put-body .ensures) (stores-seal (s .head .now) (s .payload .now) (s .out .now) (c .before .before .before .before .before .before .check-of .result) (omega arith) (c .before .before .before .before .before .before .check-of .ensures ∙ rw (c .before .before .before .before .before .before .before .before .before .before .put-body .ensures) (body-check (s .head .now) (s .payload .now) _)))
+    let k = c .before .before .before .before .before .before in
+    let b = k .before .before .before .before in
+    let s = b .before .before .before .before .before .args in
+    rw (
+      c .high2 .ensures,
+      c .before .low2 .ensures,
+      c .before .before .high .ensures,
+      c .before .before .before .low .ensures,
+      b .put-body .ensures,
+    )
+    (stores-seal (s .head .now) (s .payload .now) (s .out .now) (k .check-of .result) (omega arith)
+    (k .check-of .ensures ∙ rw (b .put-body .ensures) (body-check (s .head .now) (s .payload .now) _)))
 
 pub put-block-spec : {M : Type 1} → statement M
 put-block-spec =

@@ -1,4 +1,5 @@
--- `put_body` meets its contract. The loop's invariant: the bytes passed are written, and the rest is as lent. Assumes nothing.
+-- `put_body` meets its contract. The loop's invariant: the bytes passed are written, and the rest is as lent. Assumes
+-- nothing.
 use borrow.Author.Needs.{needs}
 use native.Mathlib.Omega.{arith}
 use mathlib.Core.Path.{_≡_, refl}
@@ -13,7 +14,8 @@ use Rattle.writer.proofs.sealing.put_body.Statement.{statement}
 use Rattle.writer.proofs.sealing.put_body.Tie as tie
 
 abbrev Inv-loop : tie.InvT-loop
-Inv-loop out₀ head payload i₀ out i = (i ≤ checkAt) × (out ≡ table (bodyByte head payload) i ++ drop i out₀) × (length out ≡ length out₀)
+Inv-loop out₀ head payload i₀ out i =
+    (i ≤ checkAt) × (out ≡ table (bodyByte head payload) i ++ drop i out₀) × (length out ≡ length out₀)
 
 abbrev μ-loop : tie.MeasureT-loop
 μ-loop out₀ head payload i₀ out i = checkAt - i
@@ -39,7 +41,8 @@ loop-again : tie.Need-loop-again Inv-loop μ-loop
 loop-again c =
     let s = c .before .before .before .before .before .before .args in
     let o = c .before .before .loop in
-    (search needs, rw (o .inv .1, c .body-byte .ensures) (table-turn (bodyByte (s .head .now) (s .payload .now)) (s .out .now) (o .i) (omega arith)), simp length-set (o .inv .2))
+    let turn = table-turn (bodyByte (s .head .now) (s .payload .now)) (s .out .now) (o .i) (omega arith) in
+    (search needs, rw (o .inv .1, c .body-byte .ensures) turn, simp length-set (o .inv .2))
 
 same-length : tie.Need-same-length Inv-loop μ-loop
 same-length c = c .before .loop .inv .2

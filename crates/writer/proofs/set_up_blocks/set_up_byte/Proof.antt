@@ -23,32 +23,60 @@ array-read-result-2 c = search needs
 
 returns-2 : tie.Need-returns-2
 unfolding setUpByte
-returns-2 c = rw (le-ltb _ _ (c .before .before .if1 .left), lt-ltb _ _ (c .before .if2 .taken), c .start-bytes .ensures)
+returns-2 c =
+    rw (le-ltb _ _ (c .before .before .if1 .left), lt-ltb _ _ (c .before .if2 .taken), c .start-bytes .ensures)
 
 period-byte-requires : tie.Need-period-byte-requires
 period-byte-requires c κs = search needs
 
 returns-3 : tie.Need-returns-3
 unfolding setUpByte
-returns-3 c = rw (le-ltb _ _ (c .before .before .before .if1 .left), le-ltb _ _ (c .before .before .if2 .left), lt-ltb _ _ (c .before .if3 .taken), c .period-byte .ensures)
+returns-3 c =
+    rw (
+      le-ltb _ _ (c .before .before .before .if1 .left),
+      le-ltb _ _ (c .before .before .if2 .left),
+      lt-ltb _ _ (c .before .if3 .taken),
+      c .period-byte .ensures,
+    )
 
 element-copy-out-result : tie.Need-element-copy-out-result
 element-copy-out-result c = search needs
 
 returns-4 : tie.Need-returns-4
 unfolding setUpByte
-returns-4 c = rw (le-ltb _ _ (c .before .before .before .before .if1 .left), le-ltb _ _ (c .before .before .before .if2 .left), le-ltb _ _ (c .before .before .if3 .left), lt-ltb _ _ (c .before .if4 .taken))
+returns-4 c =
+    rw (
+      le-ltb _ _ (c .before .before .before .before .if1 .left),
+      le-ltb _ _ (c .before .before .before .if2 .left),
+      le-ltb _ _ (c .before .before .if3 .left),
+      lt-ltb _ _ (c .before .if4 .taken),
+    )
 
 pair-byte-requires : tie.Need-pair-byte-requires
 pair-byte-requires c κs = search needs
 
 returns-5 : tie.Need-returns-5
 unfolding setUpByte
-returns-5 c = rw (le-ltb _ _ (c .before .before .before .before .before .if1 .left), le-ltb _ _ (c .before .before .before .before .if2 .left), le-ltb _ _ (c .before .before .before .if3 .left), le-ltb _ _ (c .before .before .if4 .left), lt-ltb _ _ (c .before .if5 .taken), c .pair-byte .ensures)
+returns-5 c =
+    rw (
+      le-ltb _ _ (c .before .before .before .before .before .if1 .left),
+      le-ltb _ _ (c .before .before .before .before .if2 .left),
+      le-ltb _ _ (c .before .before .before .if3 .left),
+      le-ltb _ _ (c .before .before .if4 .left),
+      lt-ltb _ _ (c .before .if5 .taken),
+      c .pair-byte .ensures,
+    )
 
 returns-6 : tie.Need-returns-6
 unfolding setUpByte
-returns-6 c = rw (le-ltb _ _ (c .before .before .before .before .if1 .left), le-ltb _ _ (c .before .before .before .if2 .left), le-ltb _ _ (c .before .before .if3 .left), le-ltb _ _ (c .before .if4 .left), le-ltb _ _ (c .if5 .left))
+returns-6 c =
+    rw (
+      le-ltb _ _ (c .before .before .before .before .if1 .left),
+      le-ltb _ _ (c .before .before .before .if2 .left),
+      le-ltb _ _ (c .before .before .if3 .left),
+      le-ltb _ _ (c .before .if4 .left),
+      le-ltb _ _ (c .if5 .left),
+    )
 
 pub set-up-byte-spec : {M : Type 1} → statement M
 set-up-byte-spec =

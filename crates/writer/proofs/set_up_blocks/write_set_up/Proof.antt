@@ -20,7 +20,8 @@ unfolding setUpRefusal
 returns c =
     let s = c .before .before .before .before .args in
     let a = c .before .row in
-    let given : a .result ≡ firstOf (lentRows (s .out .now) (setUpRows (s .setup))) = rw (c .before .before .judge .ensures) at (a .ensures) in
+    let given : a .result ≡ firstOf (lentRows (s .out .now) (setUpRows (s .setup))) =
+    rw (c .before .before .judge .ensures) at (a .ensures) in
     set-up-refused (s .setup) (s .out .now) (a .result) given (c .if1 .taken)
 
 head-of-requires : tie.Need-head-of-requires
@@ -34,7 +35,8 @@ unfolding setUpRefusal
 set-up-payload-requires c κs =
     let s = c .before .before .before .before .before .before .args in
     let a = c .before .before .before .row in
-    let given : a .result ≡ firstOf (lentRows (s .out .now) (setUpRows (s .setup))) = rw (c .before .before .before .before .judge .ensures) at (a .ensures) in
+    let given : a .result ≡ firstOf (lentRows (s .out .now) (setUpRows (s .setup))) =
+    rw (c .before .before .before .before .judge .ensures) at (a .ensures) in
     rw (c .clear .ensures) (set-up-counted (s .setup) (s .out .now) (a .result) given (c .before .before .if1 .left))
 
 slice-aggregate-put-block : tie.Need-slice-aggregate-put-block
@@ -46,10 +48,12 @@ slice-aggregate-put-block-2 c = search needs
 put-block-requires : tie.Need-put-block-requires
 unfolding setUpRefusal
 put-block-requires c κs =
-    let s = c .before .before .before .before .before .before .before .before .before .before .args in
-    let a = c .before .before .before .before .before .before .before .row in
-    let given : a .result ≡ firstOf (lentRows (s .out .now) (setUpRows (s .setup))) = rw (c .before .before .before .before .before .before .before .before .judge .ensures) at (a .ensures) in
-    set-up-lent (s .setup) (s .out .now) (a .result) given (c .before .before .before .before .before .before .if1 .left)
+    let d = c .before .before .before .before .before .before in
+    let s = d .before .before .before .before .args in
+    let a = d .before .row in
+    let given : a .result ≡ firstOf (lentRows (s .out .now) (setUpRows (s .setup))) =
+    rw (d .before .before .judge .ensures) at (a .ensures) in
+    set-up-lent (s .setup) (s .out .now) (a .result) given (d .if1 .left)
 
 same-length : tie.Need-same-length
 same-length c = search needs
@@ -57,10 +61,19 @@ same-length c = search needs
 returns-2 : tie.Need-returns-2
 unfolding setUpRefusal blockOfSetUp
 returns-2 c =
-    let s = c .before .before .before .before .before .before .before .before .before .before .before .before .before .args in
-    let a = c .before .before .before .before .before .before .before .before .before .before .row in
-    let given : a .result ≡ firstOf (lentRows (s .out .now) (setUpRows (s .setup))) = rw (c .before .before .before .before .before .before .before .before .before .before .before .judge .ensures) at (a .ensures) in
-    rw (c .before .before .put-block .ensures, c .before .before .before .before .before .before .set-up-payload .ensures, c .before .before .before .before .before .before .before .clear .ensures, c .before .before .before .before .before .before .before .before .head-of .ensures) (set-up-done (s .setup) (s .out .now) (a .result) given (c .before .before .before .before .before .before .before .before .before .if1 .left))
+    let p = c .before .before .before .before .before .before in
+    let d = p .before .before .before in
+    let s = d .before .before .before .before .args in
+    let a = d .before .row in
+    let given : a .result ≡ firstOf (lentRows (s .out .now) (setUpRows (s .setup))) =
+    rw (d .before .before .judge .ensures) at (a .ensures) in
+    rw (
+      c .before .before .put-block .ensures,
+      p .set-up-payload .ensures,
+      p .before .clear .ensures,
+      p .before .before .head-of .ensures,
+    )
+    (set-up-done (s .setup) (s .out .now) (a .result) given (d .if1 .left))
 
 pub write-set-up-spec : {M : Type 1} → statement M
 write-set-up-spec =

@@ -1,0 +1,204 @@
+// Blocks that are written: those of the files again, and by call what no file holds, and what is refused.
+use crate::comparing::same_bytes;
+use crate::printed;
+use crate::telling::LENT;
+use crate::telling::changed;
+use crate::telling::end_row;
+use crate::telling::print_answer;
+use crate::telling::print_flag;
+use crate::telling::print_number;
+use blocks::Block;
+use input::Event;
+use input::SetUp;
+use libc::STDOUT_FILENO;
+use writer::Events;
+ghost use Prim.Native.Nat.{_≤_};
+
+// A byte more than a block has.
+const ROOM: usize = Block::SIZE + 1;
+
+// An event in which no two bytes are the same, and one of which each number is the largest.
+const MIXED: Event = Event {
+    kind: 1,
+    task: 2,
+    resource: 3,
+    tick: 1284,
+};
+
+const LARGEST: Event = Event {
+    kind: 255,
+    task: 255,
+    resource: 255,
+    tick: 65535,
+};
+
+// Whether the writer accepts what was read of a block, and writes that block to the byte.
+fn is_set_up_again(setup: SetUp, block: &[u8]) -> bool {
+    let mut out = [LENT; Block::SIZE];
+    let answer = writer::write_set_up(setup, &mut out);
+    (answer == 0) & same_bytes(&out, block)
+}
+
+fn are_events_again(events: Events, index: u64, block: &[u8]) -> bool {
+    let mut out = [LENT; Block::SIZE];
+    let answer = writer::write_events(events, index, &mut out);
+    (answer == 0) & same_bytes(&out, block)
+}
+
+// Whether a block is read at its index and written again to the byte. Of one that the reader refuses nothing is read,
+// and the writer refuses that.
+pub fn is_written_again(block: &[u8], index: u64) -> bool {
+    let part = blocks::used_part(block, blocks::judge(block, index));
+    if index == 0 {
+        is_set_up_again(input::set_up_from(part), block)
+    } else {
+        are_events_again(writer::events_from(part), index, block)
+    }
+}
+
+fn print_four(out: [u8; ROOM], from: usize)
+    requires { ⌜ from ≤ 508 ⌝ }
+{
+    print_answer(out[from]);
+    print_answer(out[from + 1]);
+    print_answer(out[from + 2]);
+    print_answer(out[from + 3]);
+}
+
+// The answer, and how many bytes were written; of a written block also its head, its check, and whether it is written
+// again once it is read.
+fn print_written(answer: u8, out: [u8; ROOM], index: u64) {
+    print_answer(answer);
+    print_number(changed(&out, 0));
+    if answer == 0 {
+        print_four(out, 0);
+        print_four(out, Block::CHECK_AT);
+        print_flag(is_written_again(&out[0..Block::SIZE], index));
+    }
+    end_row();
+}
+
+fn tell_set_up(setup: SetUp, room: usize)
+    requires { ⌜ room ≤ 513 ⌝ }
+{
+    let mut out = [LENT; ROOM];
+    let answer = writer::write_set_up(setup, &mut out[0..room]);
+    io::write_all(STDOUT_FILENO, b"write set-up");
+    print_written(answer, out, 0);
+}
+
+// The first `count` of events that are all the same but for the mixed one in front.
+fn tell_events(e: Event, count: usize, index: u64, room: usize)
+    requires { ⌜ room ≤ 513 ⌝ }
+{
+    let mut of = [e; Events::MOST];
+    of[0] = MIXED;
+    let mut out = [LENT; ROOM];
+    let answer = writer::write_events(Events { of, count }, index, &mut out[0..room]);
+    io::write_all(STDOUT_FILENO, b"write events");
+    print_written(answer, out, index);
+}
+
+// The set-up with the fault that has that number; with 0, without any.
+fn faulty(number: u8) -> SetUp {
+    let mut setup = printed::busy_set_up();
+    match number {
+        1 => setup.processors = usize::MAX,
+        2 => setup.periods[2] = 0,
+        3 => setup.kinds[1] = 2,
+        4 => setup.outer[0] = 2,
+        5 => {
+            setup.kinds[0] = SetUp::LONG;
+            setup.kinds[1] = SetUp::SHORT;
+        }
+        _ => (),
+    }
+    setup
+}
+
+// The set-up, of 3 tasks, 2 resources and a pair, with a number in the first and the last place past each count.
+fn past_counts() -> SetUp {
+    let mut setup = printed::busy_set_up();
+    setup.periods[3] = 9;
+    setup.kinds[2] = 9;
+    setup.outer[1] = 9;
+    setup.inner[1] = 9;
+    setup.periods[SetUp::TASKS - 1] = 9;
+    setup.kinds[SetUp::RESOURCES - 1] = 9;
+    setup.outer[SetUp::PAIRS - 1] = 9;
+    setup.inner[SetUp::PAIRS - 1] = 9;
+    setup
+}
+
+// What comes back of the first of these numbers.
+fn tell_past_counts() {
+    let mut out = [LENT; Block::SIZE];
+    io::write_all(STDOUT_FILENO, b"past counts");
+    print_answer(writer::write_set_up(past_counts(), &mut out));
+    let back = input::set_up_from(blocks::used_part(&out, blocks::judge(&out, 0)));
+    print_number(back.periods[3] as u64);
+    print_answer(back.kinds[2]);
+    print_answer(back.outer[1]);
+    print_answer(back.inner[1]);
+    end_row();
+}
+
+// A set-up with every place in use.
+fn full() -> SetUp {
+    SetUp {
+        processors: SetUp::PROCESSORS,
+        tasks: SetUp::TASKS,
+        resources: SetUp::RESOURCES,
+        pairs: SetUp::PAIRS,
+        start: 16909060,
+        periods: [1286; SetUp::TASKS],
+        kinds: [SetUp::LONG; SetUp::RESOURCES],
+        outer: [8; SetUp::PAIRS],
+        inner: [9; SetUp::PAIRS],
+    }
+}
+
+fn tell_set_ups() {
+    tell_set_up(faulty(0), Block::SIZE);
+    tell_set_up(past_counts(), Block::SIZE);
+    tell_set_up(full(), Block::SIZE);
+    tell_set_up(faulty(1), Block::SIZE);
+    tell_set_up(faulty(2), Block::SIZE);
+    tell_set_up(faulty(3), Block::SIZE);
+    tell_set_up(faulty(4), Block::SIZE);
+    tell_set_up(faulty(5), Block::SIZE);
+    tell_set_up(faulty(1), Block::SIZE - 1);
+    tell_set_up(faulty(1), Block::SIZE + 1);
+    tell_set_up(faulty(1), 0);
+    tell_set_up(faulty(0), Block::SIZE - 1);
+    tell_set_up(faulty(0), Block::SIZE + 1);
+}
+
+fn tell_event_blocks() {
+    tell_events(Event::NONE, 2, 1, Block::SIZE);
+    tell_events(LARGEST, 1, 1, Block::SIZE);
+    tell_events(LARGEST, Events::MOST, 65536, Block::SIZE);
+    tell_events(LARGEST, Events::MOST, Block::LAST_INDEX, Block::SIZE);
+    tell_events(LARGEST, 0, 1, Block::SIZE);
+    tell_events(LARGEST, Events::MOST + 1, 1, Block::SIZE);
+    tell_events(LARGEST, usize::MAX, 1, Block::SIZE);
+    tell_events(LARGEST, 1, 0, Block::SIZE);
+    tell_events(LARGEST, 1, Block::LAST_INDEX + 1, Block::SIZE);
+    tell_events(LARGEST, 1, u64::MAX, Block::SIZE);
+    tell_events(LARGEST, 0, 0, Block::SIZE);
+    tell_events(
+        LARGEST,
+        Events::MOST + 1,
+        Block::LAST_INDEX + 1,
+        Block::SIZE,
+    );
+    tell_events(LARGEST, 0, 0, Block::SIZE - 1);
+    tell_events(LARGEST, 0, 1, Block::SIZE + 1);
+    tell_events(LARGEST, 1, 0, 0);
+}
+
+pub fn run_all() {
+    tell_set_ups();
+    tell_past_counts();
+    tell_event_blocks();
+}
