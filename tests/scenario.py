@@ -192,21 +192,22 @@ class Reader:
         self.filling = []                           # events of the block being filled
 
     def take(self, line):
-        """One line, without its LF."""
+        """One line, without its LF; the word of its item, None if it has none."""
         if len(line) > MOST_LINE:
             raise Wrong(TOO_LONG)
         told = item_of(line.removesuffix(b'\r'))
         if told is None:
-            return
+            return None
         item, arguments = told
         if item in MOST:
             self.add(item, arguments)
-            return
+            return item
         self.close_setup()
         if item == 'block' or len(self.filling) == MOST_RECORDS:
             self.close_block()
         if item != 'block':
             self.filling.append(event_of(item, arguments))
+        return item
 
     def add(self, item, arguments):
         """One item of the set-up."""
