@@ -75,6 +75,11 @@ class Bad(Exception):
         self.message = message
 
 
+def refusal(what, number):
+    """Bad, by a number of the list."""
+    return Bad(f'{what} refused {number}: {WORDS[number]}'.encode())
+
+
 # ---- an item: its word and its arguments ----
 
 def value_of(digits, most):
@@ -88,7 +93,7 @@ def value_of(digits, most):
 
 
 def number(most):
-    """An argument is a function from a word to its value, None if it has none, and the reason then."""
+    """An argument: a function from a word to its value, None if it has none, and the reason then."""
     return lambda word: value_of(word, most), f'a number from 0 to {most} is expected'
 
 
@@ -228,7 +233,7 @@ class Reader:
                               [kind for [kind] in self.items['resource']], self.items['pair'])
         refused = self.setup.refusal()
         if refused:
-            raise Bad(f'set-up refused {refused}: {WORDS[refused]}'.encode())
+            raise refusal('set-up', refused)
 
     def close_block(self):
         """A block without events is none."""
@@ -236,7 +241,7 @@ class Reader:
             self.groups.append(self.filling)
             self.filling = []
         if len(self.groups) > LAST_BLOCK:
-            raise Bad(f'block refused 32: {WORDS[32]}'.encode())
+            raise refusal('block', 32)
 
     def end(self):
         """The text's end is as if `block` stood there."""
@@ -286,7 +291,7 @@ def lines_of(data):
         block = data[BLOCK * index:BLOCK * (index + 1)]
         refused = verdict(block, index)
         if refused:
-            raise Bad(f'block {index} refused {refused}: {WORDS[refused]}'.encode())
+            raise refusal(f'block {index}', refused)
         if index > 0:
             yield from (event_line(*event) for event in events_in(block))
             if index < last and block[3] < MOST_RECORDS:
@@ -295,7 +300,7 @@ def lines_of(data):
         setup = setup_in(block)
         refused = setup.refusal()
         if refused:
-            raise Bad(f'set-up refused {refused}: {WORDS[refused]}'.encode())
+            raise refusal('set-up', refused)
         yield from setup_lines(setup)
 
 
