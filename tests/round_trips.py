@@ -12,6 +12,7 @@ command that does the same, such as 'python3 tests/scenario.py'.
 import os
 import random
 import shlex
+import shutil
 import subprocess
 import sys
 import tempfile
@@ -336,6 +337,9 @@ def tell(parts):
 
 
 def main(words):
+    if shutil.which(MAKE[0]) is None:
+        print(f'there is no command {MAKE[0]}; MAKE may name another', file=sys.stderr)
+        return 2
     if words == ['last']:
         return tell([(last_block,)])
     if len(words) > 2 or not all(word.isdecimal() for word in words):
