@@ -7,7 +7,7 @@ and of written blocks, whose columns are told below.
 
 from dataclasses import dataclass
 
-from blocks import block_of, record, setup
+from blocks import block_of, payload_of, record, setup
 from model import BLOCK, CHECK_AT, HEAD, setup_in, verdict
 
 
@@ -214,7 +214,7 @@ def kept(number):
 
 
 def set_up_block(*parts):
-    return block_of(0, 1, 1, setup(*parts))
+    return block_of(0, 1, 1, payload_of(setup(*parts)))
 
 
 # The printed case's set-up with a long resource 1 and a pair (1, 0) besides.

@@ -9,14 +9,10 @@ Each case is checked three ways: the lines written here by hand, the model of
 tests/model.py, and, where it names a slip, that the slip's line differs at the
 event named. The written files hold the model's output once these agree.
 
-A play is read line by line:
-
-    arrive T @tick        finish T @tick        pass @tick
-    request T R @tick     complete T R @tick    event KIND T R @tick
-
-each followed by the expected answer and places, if they are expected by hand;
-`---` begins the next block; a line that begins with processors, task, block or
-setup is an expected line of the output as it stands; `#` begins a remark.
+A play is the part of a scenario behind the set-up, as tests/scenario.py reads it
+and bin/make too. What is expected by hand stands in remarks that begin with `#=`:
+behind an event its answer and places, on a line of its own a line of the output
+as it stands. Another remark may follow behind `#`.
 """
 
 import io
@@ -27,14 +23,12 @@ sys.dont_write_bytecode = True
 
 import calls
 import slips
-from blocks import block_of, event_blocks, record, setup
-from model import (ARRIVE, CHECK_AT, COMPLETE, FINISH, HEAD, KINDS_AT, PAIRS_AT, PASS, PERIODS_AT,
-                   REQUEST, SETUP_BYTES, Session, check_of, printed, verdict)
-
+from blocks import block_of, blocks_of, record, setup
+from model import (CHECK_AT, HEAD, KINDS_AT, PAIRS_AT, PASS, PERIODS_AT, SETUP_BYTES, Session,
+                   check_of, printed, verdict)
+from scenario import EVENT_KINDS, Reader, file_of, setup_lines
 
 ROOT = Path(__file__).resolve().parent.parent
-WORDS = {'arrive': ARRIVE, 'finish': FINISH, 'request': REQUEST, 'complete': COMPLETE, 'pass': PASS}
-VERBATIM = ('processors', 'task', 'block', 'setup')
 
 # Places in a block, for faults.
 NUMBER, KIND, COUNT = 0, 2, 3
@@ -79,50 +73,47 @@ def extra(*values):
 # ---- cases ----
 
 class Case:
-    def __init__(self, title, payload, play, faults, moved, told):
+    def __init__(self, title, given, play, faults, moved, told):
         self.title = title
         self.moved = moved      # kinds of event in which a link moves from q to k
         self.slips = told       # slip: the event at which its line first differs
-        groups, self.places, self.lines = parsed(play)
-        blocks = [block_of(0, 1, 1, payload)] + event_blocks(groups)
+        groups, self.places, self.lines = parsed(given, play)
+        blocks = blocks_of(given, groups)
         for fault in faults:
             fault(blocks)
         self.data = b''.join(blocks)
+        self.text = None        # of an accepted file as it was meant
+        if not faults and given.refusal() == 0:
+            self.text = '\n'.join([*setup_lines(given), play]).encode()
+            assert file_of(self.text) == self.data, title
 
 
-def parsed(play):
-    """The records by block, the expected places by event number, the expected lines."""
-    groups, places, lines, number = [[]], {}, [], 0
-    for text in play.splitlines():
-        words = text.split('#')[0].split()
-        if not words:
-            continue
-        if words[0] == '---':
-            groups.append([])
-        elif words[0] in VERBATIM:
-            lines.append(' '.join(words))
-        else:
-            number += 1
-            at = next(i for i, word in enumerate(words) if word.startswith('@'))
-            groups[-1].append(record(*fields_of(words[:at]), int(words[at][1:])))
-            if words[at + 1:]:
-                places[number] = ' '.join([str(number)] + words[at + 1:])
-    return groups, places, lines
+def parsed(given, play):
+    """The events by block, the expected places by event number, the expected lines."""
+    reader, places, lines, number = Reader(given), {}, [], 0
+    for line in play.splitlines():
+        item = reader.take(line.encode())
+        number += item not in (None, 'block')
+        expected = expected_in(line)
+        if expected and item:
+            places[number] = f'{number} {expected}'
+        elif expected:
+            lines.append(expected)
+    reader.end()
+    return reader.groups, places, lines
 
 
-def fields_of(words):
-    """Kind, task and resource."""
-    numbers = [int(word) for word in words[1:]]
-    if words[0] != 'event':
-        numbers.insert(0, WORDS[words[0]])
-    return (numbers + [0, 0])[:3]
+def expected_in(line):
+    """What stands behind `#=` in a line's remark, up to a further one."""
+    remark = line.partition('#')[2]
+    return ' '.join(remark[1:].partition('#')[0].split()) if remark.startswith('=') else ''
 
 
 CASES = []
 
 
-def case(title, payload, play, faults=(), moved=None, told=None):
-    CASES.append(Case(title, payload, play, faults, moved, told or {}))
+def case(title, given, play, faults=(), moved=None, told=None):
+    CASES.append(Case(title, given, play, faults, moved, told or {}))
 
 
 def output_of(data, session_of=Session):
@@ -151,7 +142,7 @@ def judged(one):
     assert refused == [line for line in one.lines if 'refused' in line], one.title
     assert refused in ([], output[-1:]), f'{one.title}: a refusal is the last line'
     if one.moved is not None:
-        assert sessions[0].moved_by == [WORDS[word] for word in one.moved.split()], one.title
+        assert sessions[0].moved_by == [EVENT_KINDS[word] for word in one.moved.split()], one.title
     for slip, number in one.slips.items():
         other = event_lines(output_of(one.data, slip))
         first = next((n for n in got if other.get(n) != got[n]), None)
@@ -240,56 +231,56 @@ case('P1 to P8: the printed case',
 
 case('P9: a finish moves the link of the job linked to q, after step 4 of the printed case',
      setup(2, [100, 200, 50], 'short', start=65530), '''
-     arrive 0      @65530  0 0/0 -/-
-     arrive 1      @65532  0 0/0 1/1
-     request 1 0   @65535  0 0/0 1/1
-     arrive 2      @2      0 0/0 2/1
-     finish 0      @4      0 2/2 1/1
-     task 0 10 0 0 0 0
-     task 1 8 0 0 0 0
-     task 2 0 0 2 0 0
+     arrive 0      @65530  #= 0 0/0 -/-
+     arrive 1      @65532  #= 0 0/0 1/1
+     request 1 0   @65535  #= 0 0/0 1/1
+     arrive 2      @2      #= 0 0/0 2/1
+     finish 0      @4      #= 0 2/2 1/1
+     #= task 0 10 0 0 0 0
+     #= task 1 8 0 0 0 0
+     #= task 2 0 0 2 0 0
      ''', moved='finish', told={slips.StaysOnQ: 5})
 
 case('P10: the holder of a long inherits, and the lock passes on with its completion',
      setup(1, [300, 100, 200], 'long'), '''
-     arrive 0      @0   0 0/0
-     request 0 0   @0   0 0/0
-     arrive 1      @10  0 1/1
-     request 1 0   @10  0 0/0
-     arrive 2      @20  0 0/0
-     complete 0 0  @25  0 1/1
-     task 0 25 0 0 0 0
-     task 1 0 0 0 0 15
-     task 2 0 0 0 5 0
+     arrive 0      @0   #= 0 0/0
+     request 0 0   @0   #= 0 0/0
+     arrive 1      @10  #= 0 1/1
+     request 1 0   @10  #= 0 0/0
+     arrive 2      @20  #= 0 0/0
+     complete 0 0  @25  #= 0 1/1
+     #= task 0 25 0 0 0 0
+     #= task 1 0 0 0 0 15
+     #= task 2 0 0 0 5 0
      ''')
 
 case('P11: a step of 32,767 is accepted',
      setup(1, [10]), '''
-     pass  @32767  0 -/-
-     pass  @65534  0 -/-
+     pass  @32767  #= 0 -/-
+     pass  @65534  #= 0 -/-
      ''')
 
 case('P11: a step of 32,768 gives 14 and moves nothing, the clock included',
      setup(1, [10]), '''
-     pass  @32768  14 -/-
-     pass  @32767  0 -/-
-     pass  @65535  14 -/-
+     pass  @32768  #= 14 -/-
+     pass  @32767  #= 0 -/-
+     pass  @65535  #= 14 -/-
      ''')
 
 case('P12: pairs (2,1) and (1,0), all short, make one group',
      setup(2, [100, 200], 'short short short', [(2, 1), (1, 0)]), '''
-     arrive 0      @0  0 0/0 -/-
-     arrive 1      @0  0 0/0 1/1
-     request 0 2   @1  0 0/0 1/1
-     request 0 0   @1  0 0/0 1/1   # same group: granted at once, not 23
-     request 1 1   @2  0 0/0 1/1   # the same lock: spins
-     complete 1 1  @3  20 0/0 1/1
-     complete 0 0  @4  0 0/0 1/1   # inner: the lock is kept
-     complete 1 1  @5  20 0/0 1/1
-     complete 0 2  @6  0 0/0 1/1
-     complete 1 1  @7  0 0/0 1/1
-     task 0 7 0 0 0 0
-     task 1 3 4 0 0 0
+     arrive 0      @0  #= 0 0/0 -/-
+     arrive 1      @0  #= 0 0/0 1/1
+     request 0 2   @1  #= 0 0/0 1/1
+     request 0 0   @1  #= 0 0/0 1/1   # same group: granted at once, not 23
+     request 1 1   @2  #= 0 0/0 1/1   # the same lock: spins
+     complete 1 1  @3  #= 20 0/0 1/1
+     complete 0 0  @4  #= 0 0/0 1/1   # inner: the lock is kept
+     complete 1 1  @5  #= 20 0/0 1/1
+     complete 0 2  @6  #= 0 0/0 1/1
+     complete 1 1  @7  #= 0 0/0 1/1
+     #= task 0 7 0 0 0 0
+     #= task 1 3 4 0 0 0
      ''')
 
 # =====================================================================
@@ -298,35 +289,35 @@ case('P12: pairs (2,1) and (1,0), all short, make one group',
 
 case('groups: without pairs the same resources are groups alone',
      setup(2, [100, 200], 'short short short'), '''
-     arrive 0      @0  0 0/0 -/-
-     arrive 1      @0  0 0/0 1/1
-     request 0 2   @1  0 0/0 1/1
-     request 0 0   @1  23 0/0 1/1
-     request 1 1   @2  0 0/0 1/1
-     complete 1 1  @3  0 0/0 1/1
+     arrive 0      @0  #= 0 0/0 -/-
+     arrive 1      @0  #= 0 0/0 1/1
+     request 0 2   @1  #= 0 0/0 1/1
+     request 0 0   @1  #= 23 0/0 1/1
+     request 1 1   @2  #= 0 0/0 1/1
+     complete 1 1  @3  #= 0 0/0 1/1
      ''')
 
 case('groups: pairs of a long outer and a short inner join nothing',
      setup(1, [100], 'long short short', [(0, 1), (0, 2)]), '''
-     arrive 0      @0  0 0/0
-     request 0 0   @0  0 0/0
-     request 0 1   @0  0 0/0
-     request 0 2   @0  23 0/0
+     arrive 0      @0  #= 0 0/0
+     request 0 0   @0  #= 0 0/0
+     request 0 1   @0  #= 0 0/0
+     request 0 2   @0  #= 23 0/0
      ''')
 
 case('groups: one outer joins its inner resources to each other',
      setup(1, [100], 'short short short', [(0, 1), (0, 2)]), '''
-     arrive 0      @0  0 0/0
-     request 0 1   @0  0 0/0
-     request 0 2   @0  0 0/0
+     arrive 0      @0  #= 0 0/0
+     request 0 1   @0  #= 0 0/0
+     request 0 2   @0  #= 0 0/0
      ''')
 
 case('groups: two chains meet in a later pair, and a pair may stand twice',
      setup(1, [100], 'long long long long', [(3, 2), (3, 2), (1, 0), (2, 1)]), '''
-     arrive 0      @0  0 0/0
-     request 0 3   @0  0 0/0
-     request 0 0   @0  0 0/0
-     request 0 1   @0  0 0/0
+     arrive 0      @0  #= 0 0/0
+     request 0 3   @0  #= 0 0/0
+     request 0 0   @0  #= 0 0/0
+     request 0 1   @0  #= 0 0/0
      ''')
 
 # =====================================================================
@@ -337,26 +328,26 @@ WIDE = [1000 + t for t in range(32)]
 
 case('set-up: block 0 alone prints the first line and the task lines',
      setup(3, [5, 6], start=4294967295), '''
-     processors 3 tasks 2 start 4294967295
-     task 0 0 0 0 0 0
-     task 1 0 0 0 0 0
+     #= processors 3 tasks 2 start 4294967295
+     #= task 0 0 0 0 0 0
+     #= task 1 0 0 0 0 0
      ''')
 
 case('set-up: one processor, one task, no resource',
      setup(1, [1]), '''
-     arrive 0     @0  0 0/0
-     request 0 0  @0  12 0/0
-     finish 0     @1  0 -/-
-     arrive 0     @1  0 0/0
-     finish 0     @3  0 -/-
-     task 0 3 0 0 0 0
+     arrive 0     @0  #= 0 0/0
+     request 0 0  @0  #= 12 0/0
+     finish 0     @1  #= 0 -/-
+     arrive 0     @1  #= 0 0/0
+     finish 0     @3  #= 0 -/-
+     #= task 0 3 0 0 0 0
      ''')
 
 case('set-up: counts at their upper limits are accepted',
      setup(8, WIDE, 'short ' * 32, [(1, 0)] * 64), '''
-     processors 8 tasks 32 start 0
-     arrive 31      @0  0 31/31 -/- -/- -/- -/- -/- -/- -/-
-     request 31 31  @0  0 31/31 -/- -/- -/- -/- -/- -/- -/-
+     #= processors 8 tasks 32 start 0
+     arrive 31      @0  #= 0 31/31 -/- -/- -/- -/- -/- -/- -/-
+     request 31 31  @0  #= 0 31/31 -/- -/- -/- -/- -/- -/- -/-
      ''')
 
 for name, place, count in [
@@ -364,52 +355,52 @@ for name, place, count in [
         ('tasks 33', TASKS, 33), ('tasks 255', TASKS, 255),
         ('resources 33', RESOURCES, 33), ('pairs 65', PAIR_COUNT, 65)]:
     case(f'set-up: {name}, all else right, gives 1',
-         setup(8, WIDE, 'short ' * 32, [(1, 0)] * 64), 'setup refused 1',
+         setup(8, WIDE, 'short ' * 32, [(1, 0)] * 64), '#= setup refused 1',
          faults=[put(0, place, count)])
 
 case('set-up: tasks 0 gives 1',
-     setup(1, []), 'setup refused 1')
+     setup(1, []), '#= setup refused 1')
 
 case('set-up: a period of 0 gives 2',
-     setup(1, [5, 0, 5]), 'setup refused 2')
+     setup(1, [5, 0, 5]), '#= setup refused 2')
 
 case('set-up: a kind of 2 gives 3',
-     setup(1, [5], 'short long'), 'setup refused 3', faults=[put(0, KINDS + 1, 2)])
+     setup(1, [5], 'short long'), '#= setup refused 3', faults=[put(0, KINDS + 1, 2)])
 
 case('set-up: an outer resource not in the table gives 4',
-     setup(1, [5], 'short long', [(2, 1)]), 'setup refused 4')
+     setup(1, [5], 'short long', [(2, 1)]), '#= setup refused 4')
 
 case('set-up: an inner resource not in the table gives 4',
-     setup(1, [5], 'short long', [(1, 0), (1, 2)]), 'setup refused 4')
+     setup(1, [5], 'short long', [(1, 0), (1, 2)]), '#= setup refused 4')
 
 case('set-up: a pair that names one resource twice gives 4',
-     setup(1, [5], 'short long', [(1, 1)]), 'setup refused 4')
+     setup(1, [5], 'short long', [(1, 1)]), '#= setup refused 4')
 
 case('set-up: a pair without any resource in the table gives 4',
-     setup(1, [5], '', [(0, 1)]), 'setup refused 4')
+     setup(1, [5], '', [(0, 1)]), '#= setup refused 4')
 
 case('set-up: a pair that puts a long inside a short gives 5',
-     setup(1, [5], 'short long', [(0, 1)]), 'setup refused 5')
+     setup(1, [5], 'short long', [(0, 1)]), '#= setup refused 5')
 
 case('set-up: 1 to 5 at once give 1',
-     setup(9, [0], 'short long short', [(0, 1), (1, 1)]), 'setup refused 1',
+     setup(9, [0], 'short long short', [(0, 1), (1, 1)]), '#= setup refused 1',
      faults=[put(0, KINDS + 2, 255)])
 
 case('set-up: 2 to 5 at once give 2',
-     setup(1, [5, 0], 'short long short', [(0, 1), (1, 1)]), 'setup refused 2',
+     setup(1, [5, 0], 'short long short', [(0, 1), (1, 1)]), '#= setup refused 2',
      faults=[put(0, KINDS + 2, 255)])
 
 case('set-up: 3 to 5 at once give 3',
-     setup(1, [5, 5], 'short long short', [(0, 1), (1, 1)]), 'setup refused 3',
+     setup(1, [5, 5], 'short long short', [(0, 1), (1, 1)]), '#= setup refused 3',
      faults=[put(0, KINDS + 2, 255)])
 
 case('set-up: 4 and 5 at once give 4, though the pair for 5 stands first',
-     setup(1, [5], 'short long', [(0, 1), (1, 1)]), 'setup refused 4')
+     setup(1, [5], 'short long', [(0, 1), (1, 1)]), '#= setup refused 4')
 
 case('set-up: a refused one is the whole output, blocks after it unread',
      setup(1, [0]), '''
      arrive 0  @0
-     setup refused 2
+     #= setup refused 2
      ''', faults=[spoil(1, KIND, 9)])
 
 # =====================================================================
@@ -422,114 +413,114 @@ PASSES = '''
      pass  @2
 '''
 
-case('reader: empty input', ONE, 'block 0 refused 30', faults=[cut(0, 0)])
-case('reader: a block 0 of 511 bytes', ONE, 'block 0 refused 30', faults=[cut(0, 511)])
-case('reader: a block 0 of 1 byte', ONE, 'block 0 refused 30', faults=[cut(0, 1)])
+case('reader: empty input', ONE, '#= block 0 refused 30', faults=[cut(0, 0)])
+case('reader: a block 0 of 511 bytes', ONE, '#= block 0 refused 30', faults=[cut(0, 511)])
+case('reader: a block 0 of 1 byte', ONE, '#= block 0 refused 30', faults=[cut(0, 1)])
 
 case('reader: a block 1 of 511 bytes', ONE, '''
-     processors 1 tasks 2 start 0
-     block 1 refused 30
+     #= processors 1 tasks 2 start 0
+     #= block 1 refused 30
      ''' + PASSES, faults=[cut(1, 511)])
 
 case('reader: bytes after a whole block', ONE, PASSES + '''
-     block 2 refused 30
+     #= block 2 refused 30
      ''', faults=[extra(0)])
 
 case('reader: the input\'s end between blocks is the normal end', ONE, '''
-     pass  @1  0 -/-
-     ---
-     pass  @2  0 -/-
-     task 1 0 0 0 0 0
+     pass  @1  #= 0 -/-
+     block
+     pass  @2  #= 0 -/-
+     #= task 1 0 0 0 0 0
      ''')
 
-case('reader: 31 for a byte of block 0 changed', ONE, 'block 0 refused 31',
+case('reader: 31 for a byte of block 0 changed', ONE, '#= block 0 refused 31',
      faults=[spoil(0, PERIODS, 11)])
-case('reader: 31 for the last byte of the payload changed', ONE, 'block 0 refused 31',
+case('reader: 31 for the last byte of the payload changed', ONE, '#= block 0 refused 31',
      faults=[spoil(0, CHECK_AT - 1, 1)])
-case('reader: 31 for a byte of the first sum changed', ONE, 'block 0 refused 31',
+case('reader: 31 for a byte of the first sum changed', ONE, '#= block 0 refused 31',
      faults=[spoil(0, CHECK_AT + 1, 255)])
-case('reader: 31 for a byte of the second sum changed', ONE, 'block 0 refused 31',
+case('reader: 31 for a byte of the second sum changed', ONE, '#= block 0 refused 31',
      faults=[spoil(0, CHECK_AT + 3, 255)])
 
 # Two words changed places leave the first sum as it was.
-case('reader: 31 for two words that changed places', ONE, 'block 0 refused 31',
+case('reader: 31 for two words that changed places', ONE, '#= block 0 refused 31',
      faults=[spoil(0, PERIODS, 20, 0, 10, 0)])
 
 # A word of 65,535 counts as 0 in both sums: two bytes have changed here, not one.
 case('reader: a period of 65,535 changed to 0 leaves the check right', setup(1, [65535]),
-     'setup refused 2', faults=[spoil(0, PERIODS, 0, 0)])
+     '#= setup refused 2', faults=[spoil(0, PERIODS, 0, 0)])
 
 # Both starts are chosen so that one sum of block 0 is 0.
 FIRST_IS_0 = setup(1, [10], start=65011)
 SECOND_IS_0 = setup(1, [10], start=7073)
 
-case('reader: a first sum of 0 is stored as 0', FIRST_IS_0, 'processors 1 tasks 1 start 65011',
+case('reader: a first sum of 0 is stored as 0', FIRST_IS_0, '#= processors 1 tasks 1 start 65011',
      faults=[spoil(0, CHECK_AT, 0, 0)])
-case('reader: a first sum of 0 stored as 65,535 is wrong', FIRST_IS_0, 'block 0 refused 31',
+case('reader: a first sum of 0 stored as 65,535 is wrong', FIRST_IS_0, '#= block 0 refused 31',
      faults=[spoil(0, CHECK_AT, 255, 255)])
-case('reader: a second sum of 0 is stored as 0', SECOND_IS_0, 'processors 1 tasks 1 start 7073',
+case('reader: a second sum of 0 is stored as 0', SECOND_IS_0, '#= processors 1 tasks 1 start 7073',
      faults=[spoil(0, CHECK_AT + 2, 0, 0)])
-case('reader: a second sum of 0 stored as 65,535 is wrong', SECOND_IS_0, 'block 0 refused 31',
+case('reader: a second sum of 0 stored as 65,535 is wrong', SECOND_IS_0, '#= block 0 refused 31',
      faults=[spoil(0, CHECK_AT + 2, 255, 255)])
 
-case('reader: number 1 in block 0', ONE, 'block 0 refused 32', faults=[put(0, NUMBER, 1)])
-case('reader: number 256 in block 0', ONE, 'block 0 refused 32', faults=[put(0, NUMBER, 0, 1)])
-case('reader: number 0 in block 1', ONE, PASSES + 'block 1 refused 32',
+case('reader: number 1 in block 0', ONE, '#= block 0 refused 32', faults=[put(0, NUMBER, 1)])
+case('reader: number 256 in block 0', ONE, '#= block 0 refused 32', faults=[put(0, NUMBER, 0, 1)])
+case('reader: number 0 in block 1', ONE, PASSES + '#= block 1 refused 32',
      faults=[put(1, NUMBER, 0)])
-case('reader: number 2 in block 1', ONE, PASSES + 'block 1 refused 32',
+case('reader: number 2 in block 1', ONE, PASSES + '#= block 1 refused 32',
      faults=[put(1, NUMBER, 2)])
 
-case('reader: kind 2 in block 0', ONE, 'block 0 refused 33', faults=[put(0, KIND, 2)])
-case('reader: kind 0 in block 0', ONE, 'block 0 refused 33', faults=[put(0, KIND, 0)])
-case('reader: kind 1 in block 1', ONE, PASSES + 'block 1 refused 33', faults=[put(1, KIND, 1)])
-case('reader: kind 3 in block 1', ONE, PASSES + 'block 1 refused 33', faults=[put(1, KIND, 3)])
+case('reader: kind 2 in block 0', ONE, '#= block 0 refused 33', faults=[put(0, KIND, 2)])
+case('reader: kind 0 in block 0', ONE, '#= block 0 refused 33', faults=[put(0, KIND, 0)])
+case('reader: kind 1 in block 1', ONE, PASSES + '#= block 1 refused 33', faults=[put(1, KIND, 1)])
+case('reader: kind 3 in block 1', ONE, PASSES + '#= block 1 refused 33', faults=[put(1, KIND, 3)])
 
-case('reader: count 0 in block 0', ONE, 'block 0 refused 34', faults=[put(0, COUNT, 0)])
-case('reader: count 2 in block 0', ONE, 'block 0 refused 34', faults=[put(0, COUNT, 2)])
-case('reader: count 0 in block 1', ONE, PASSES + 'block 1 refused 34', faults=[put(1, COUNT, 0)])
-case('reader: count 85 in block 1', ONE, PASSES + 'block 1 refused 34',
+case('reader: count 0 in block 0', ONE, '#= block 0 refused 34', faults=[put(0, COUNT, 0)])
+case('reader: count 2 in block 0', ONE, '#= block 0 refused 34', faults=[put(0, COUNT, 2)])
+case('reader: count 0 in block 1', ONE, PASSES + '#= block 1 refused 34', faults=[put(1, COUNT, 0)])
+case('reader: count 85 in block 1', ONE, PASSES + '#= block 1 refused 34',
      faults=[put(1, COUNT, 85)])
 case('reader: count 84 in block 1', ONE,
-     '     pass @1 0 -/-\n' + '     event 0 0 0 @0 10 -/-\n' * 83)
+     '     pass @1  #= 0 -/-\n' + '     event 0 0 0 @0  #= 10 -/-\n' * 83)
 
 for what, place in [
         ('the first period past the count', PERIODS + 4), ('the last period', PERIODS + 63),
         ('the first kind past the count', KINDS + 2), ('the last kind', KINDS + 31),
         ('the first pair past the count', PAIRS + 2), ('the last pair', PAIRS + 127),
         ('the first byte after the tables', REST), ('the last byte of the payload', CHECK_AT - 1)]:
-    case(f'reader: filler of block 0 not 0: {what}', ONE, 'block 0 refused 35',
+    case(f'reader: filler of block 0 not 0: {what}', ONE, '#= block 0 refused 35',
          faults=[put(0, place, 1)])
 
-case('reader: a reserve byte not 0', ONE, PASSES + 'block 1 refused 35',
+case('reader: a reserve byte not 0', ONE, PASSES + '#= block 1 refused 35',
      faults=[put(1, HEAD + 6 + 3, 1)])
 case('reader: filler of block 1 not 0: the first byte after the records', ONE,
-     PASSES + 'block 1 refused 35', faults=[put(1, HEAD + 12, 1)])
+     PASSES + '#= block 1 refused 35', faults=[put(1, HEAD + 12, 1)])
 case('reader: filler of block 1 not 0: the last byte of the payload', ONE,
-     PASSES + 'block 1 refused 35', faults=[put(1, CHECK_AT - 1, 128)])
+     PASSES + '#= block 1 refused 35', faults=[put(1, CHECK_AT - 1, 128)])
 
-case('reader: 30 and 31 at once give 30', ONE, 'block 0 refused 30',
+case('reader: 30 and 31 at once give 30', ONE, '#= block 0 refused 30',
      faults=[spoil(0, PERIODS, 11), cut(0, 511)])
-case('reader: 31 and 32 at once give 31', ONE, 'block 0 refused 31',
+case('reader: 31 and 32 at once give 31', ONE, '#= block 0 refused 31',
      faults=[spoil(0, NUMBER, 1)])
-case('reader: 32 and 33 at once give 32', ONE, PASSES + 'block 1 refused 32',
+case('reader: 32 and 33 at once give 32', ONE, PASSES + '#= block 1 refused 32',
      faults=[put(1, NUMBER, 2), put(1, KIND, 1)])
-case('reader: 33 and 34 at once give 33', ONE, PASSES + 'block 1 refused 33',
+case('reader: 33 and 34 at once give 33', ONE, PASSES + '#= block 1 refused 33',
      faults=[put(1, KIND, 1), put(1, COUNT, 85)])
-case('reader: 34 and 35 at once give 34', ONE, PASSES + 'block 1 refused 34',
+case('reader: 34 and 35 at once give 34', ONE, PASSES + '#= block 1 refused 34',
      faults=[put(1, COUNT, 85), put(1, HEAD + 3, 1)])
-case('reader: 30 to 35 come before 1 to 5', setup(9, [0]), 'block 0 refused 35',
+case('reader: 30 to 35 come before 1 to 5', setup(9, [0]), '#= block 0 refused 35',
      faults=[put(0, REST, 1)])
 
 case('reader: a block refused after good blocks ends the output without task lines', ONE, '''
-     processors 1 tasks 2 start 0
-     arrive 0  @1  0 0/0
-     ---
-     finish 1  @2  18 0/0
-     ---
+     #= processors 1 tasks 2 start 0
+     arrive 0  @1  #= 0 0/0
+     block
+     finish 1  @2  #= 18 0/0
+     block
      finish 0  @3
-     ---
+     block
      arrive 1  @4
-     block 3 refused 33
+     #= block 3 refused 33
      ''', faults=[put(3, KIND, 7)])
 
 # =====================================================================
@@ -538,245 +529,245 @@ case('reader: a block refused after good blocks ends the output without task lin
 
 case('10: an event kind not 1 to 5, before 14',
      setup(1, [10], 'short'), '''
-     event 0 0 0      @0      10 -/-
-     event 6 0 0      @0      10 -/-
-     event 255 255 9  @40000  10 -/-
-     arrive 0         @0      0 0/0
+     event 0 0 0      @0      #= 10 -/-
+     event 6 0 0      @0      #= 10 -/-
+     event 255 255 9  @40000  #= 10 -/-
+     arrive 0         @0      #= 0 0/0
      ''')
 
 case('11: a task not in the table, before 12, 13 and 14',
      setup(1, [10, 20], 'short'), '''
-     arrive 2       @0      11 -/-
-     finish 255     @0      11 -/-
-     request 2 1    @0      11 -/-
-     complete 2 1   @0      11 -/-
-     event 1 2 1    @0      11 -/-
-     finish 2       @40000  11 -/-
-     arrive 1       @0      0 1/1
+     arrive 2       @0      #= 11 -/-
+     finish 255     @0      #= 11 -/-
+     request 2 1    @0      #= 11 -/-
+     complete 2 1   @0      #= 11 -/-
+     event 1 2 1    @0      #= 11 -/-
+     finish 2       @40000  #= 11 -/-
+     arrive 1       @0      #= 0 1/1
      ''')
 
 case('12: a resource not in the table, before 14 and 18',
      setup(1, [10], 'short short'), '''
-     request 0 2     @40000  12 -/-
-     complete 0 255  @0      12 -/-
-     arrive 0        @0      0 0/0
-     request 0 2     @0      12 0/0
-     request 0 1     @0      0 0/0
+     request 0 2     @40000  #= 12 -/-
+     complete 0 255  @0      #= 12 -/-
+     arrive 0        @0      #= 0 0/0
+     request 0 2     @0      #= 12 0/0
+     request 0 1     @0      #= 0 0/0
      ''')
 
 case('13: a field that the kind does not use is not 0, before 14; kind 5 never gives 11 or 12',
      setup(1, [10], 'short short'), '''
-     event 1 0 1      @0      13 -/-
-     event 2 0 255    @0      13 -/-
-     event 5 0 1      @0      13 -/-
-     event 5 1 0      @0      13 -/-
-     event 5 255 255  @0      13 -/-
-     event 2 0 1      @40000  13 -/-
+     event 1 0 1      @0      #= 13 -/-
+     event 2 0 255    @0      #= 13 -/-
+     event 5 0 1      @0      #= 13 -/-
+     event 5 1 0      @0      #= 13 -/-
+     event 5 255 255  @0      #= 13 -/-
+     event 2 0 1      @40000  #= 13 -/-
      ''')
 
 case('14: a step back, before 15, 16 and 18',
      setup(1, [10, 10], start=4294967295), '''
-     arrive 0  @65535  0 0/0
-     arrive 0  @65534  14 0/0
-     finish 1  @65534  14 0/0
-     pass      @32767  14 0/0   # 32,768: would also pass the clock's end
-     pass      @32766  15 0/0   # 32,767
+     arrive 0  @65535  #= 0 0/0
+     arrive 0  @65534  #= 14 0/0
+     finish 1  @65534  #= 14 0/0
+     pass      @32767  #= 14 0/0   # 32,768: would also pass the clock's end
+     pass      @32766  #= 15 0/0   # 32,767
      ''')
 
 case('15: the clock at 4,294,967,295 takes a step of 0 and no step of 1, before 16 and 18',
      setup(1, [10, 10], start=4294967294), '''
-     arrive 0  @65534  0 0/0
-     pass      @65535  0 0/0
-     pass      @65535  0 0/0
-     pass      @0      15 0/0
-     arrive 0  @0      15 0/0
-     finish 1  @0      15 0/0
-     finish 0  @65535  0 -/-
-     task 0 1 0 0 0 0
+     arrive 0  @65534  #= 0 0/0
+     pass      @65535  #= 0 0/0
+     pass      @65535  #= 0 0/0
+     pass      @0      #= 15 0/0
+     arrive 0  @0      #= 15 0/0
+     finish 1  @0      #= 15 0/0
+     finish 0  @65535  #= 0 -/-
+     #= task 0 1 0 0 0 0
      ''')
 
 case('16: an arrival while the job is pending, before 17 and alone',
      setup(1, [10]), '''
-     arrive 0  @0   0 0/0
-     arrive 0  @0   16 0/0
-     arrive 0  @10  16 0/0
-     arrive 0  @11  16 0/0
+     arrive 0  @0   #= 0 0/0
+     arrive 0  @0   #= 16 0/0
+     arrive 0  @10  #= 16 0/0
+     arrive 0  @11  #= 16 0/0
      ''')
 
 case('17: one tick sooner than one period is refused, exactly one period is accepted',
      setup(1, [100]), '''
-     arrive 0  @50   0 0/0
-     finish 0  @60   0 -/-
-     arrive 0  @60   17 -/-
-     arrive 0  @149  17 -/-
-     arrive 0  @150  0 0/0
-     finish 0  @150  0 -/-
-     arrive 0  @150  17 -/-
-     task 0 10 0 0 0 0
+     arrive 0  @50   #= 0 0/0
+     finish 0  @60   #= 0 -/-
+     arrive 0  @60   #= 17 -/-
+     arrive 0  @149  #= 17 -/-
+     arrive 0  @150  #= 0 0/0
+     finish 0  @150  #= 0 -/-
+     arrive 0  @150  #= 17 -/-
+     #= task 0 10 0 0 0 0
      ''')
 
 case('17: a period of 65,535 is counted on the exact clock',
      setup(1, [65535]), '''
-     arrive 0  @0      0 0/0
-     finish 0  @1      0 -/-
-     pass      @32000  0 -/-
-     arrive 0  @64000  17 -/-
-     pass      @64000  0 -/-
-     arrive 0  @65534  17 -/-
-     arrive 0  @65535  0 0/0
+     arrive 0  @0      #= 0 0/0
+     finish 0  @1      #= 0 -/-
+     pass      @32000  #= 0 -/-
+     arrive 0  @64000  #= 17 -/-
+     pass      @64000  #= 0 -/-
+     arrive 0  @65534  #= 17 -/-
+     arrive 0  @65535  #= 0 0/0
      ''')
 
 case('17: the first arrival has none before it, at any start',
      setup(1, [65535], start=3), '''
-     arrive 0  @3  0 0/0
+     arrive 0  @3  #= 0 0/0
      ''')
 
 case('18: no pending job, before 25, never arrived or finished',
      setup(1, [10], 'short'), '''
-     finish 0      @0  18 -/-
-     request 0 0   @0  18 -/-
-     complete 0 0  @0  18 -/-
-     arrive 0      @0  0 0/0
-     finish 0      @1  0 -/-
-     finish 0      @1  18 -/-
-     complete 0 0  @1  18 -/-
+     finish 0      @0  #= 18 -/-
+     request 0 0   @0  #= 18 -/-
+     complete 0 0  @0  #= 18 -/-
+     arrive 0      @0  #= 0 0/0
+     finish 0      @1  #= 0 -/-
+     finish 0      @1  #= 18 -/-
+     complete 0 0  @1  #= 18 -/-
      ''')
 
 case('19: a ready job is on no processor, before 21, 22 and 25',
      setup(1, [200, 100], 'long'), '''
-     arrive 0      @0  0 0/0
-     request 0 0   @0  0 0/0
-     arrive 1      @1  0 1/1
-     finish 0      @2  19 1/1
-     request 0 0   @2  19 1/1
-     complete 0 0  @2  19 1/1
-     task 0 1 0 0 0 0
+     arrive 0      @0  #= 0 0/0
+     request 0 0   @0  #= 0 0/0
+     arrive 1      @1  #= 0 1/1
+     finish 0      @2  #= 19 1/1
+     request 0 0   @2  #= 19 1/1
+     complete 0 0  @2  #= 19 1/1
+     #= task 0 1 0 0 0 0
      ''')
 
 case('19: a linked job that does not run is on no processor',
      setup(1, [200, 100], 'short'), '''
-     arrive 0      @0  0 0/0
-     request 0 0   @0  0 0/0
-     arrive 1      @1  0 1/0
-     finish 1      @2  19 1/0
-     request 1 0   @2  19 1/0
-     complete 1 0  @2  19 1/0
+     arrive 0      @0  #= 0 0/0
+     request 0 0   @0  #= 0 0/0
+     arrive 1      @1  #= 0 1/0
+     finish 1      @2  #= 19 1/0
+     request 1 0   @2  #= 19 1/0
+     complete 1 0  @2  #= 19 1/0
      ''')
 
 case('19: a suspended job is on no processor',
      setup(2, [200, 100], 'long'), '''
-     arrive 0      @0  0 0/0 -/-
-     request 0 0   @0  0 0/0 -/-
-     arrive 1      @1  0 0/0 1/1
-     request 1 0   @1  0 0/0 -/-
-     finish 1      @2  19 0/0 -/-
-     request 1 0   @2  19 0/0 -/-
-     complete 1 0  @2  19 0/0 -/-
-     arrive 1      @2  16 0/0 -/-
+     arrive 0      @0  #= 0 0/0 -/-
+     request 0 0   @0  #= 0 0/0 -/-
+     arrive 1      @1  #= 0 0/0 1/1
+     request 1 0   @1  #= 0 0/0 -/-
+     finish 1      @2  #= 19 0/0 -/-
+     request 1 0   @2  #= 19 0/0 -/-
+     complete 1 0  @2  #= 19 0/0 -/-
+     arrive 1      @2  #= 16 0/0 -/-
      ''')
 
 case('20: a spinning job, before 21, 22 and 25',
      setup(2, [200, 100], 'long short'), '''
-     arrive 0      @0  0 0/0 -/-
-     request 0 1   @0  0 0/0 -/-
-     arrive 1      @0  0 0/0 1/1
-     request 1 0   @0  0 0/0 1/1
-     request 1 1   @0  0 0/0 1/1   # spins, with a long open
-     finish 1      @1  20 0/0 1/1
-     request 1 0   @1  20 0/0 1/1
-     request 1 1   @1  20 0/0 1/1
-     complete 1 1  @1  20 0/0 1/1
-     complete 1 0  @1  20 0/0 1/1
+     arrive 0      @0  #= 0 0/0 -/-
+     request 0 1   @0  #= 0 0/0 -/-
+     arrive 1      @0  #= 0 0/0 1/1
+     request 1 0   @0  #= 0 0/0 1/1
+     request 1 1   @0  #= 0 0/0 1/1   # spins, with a long open
+     finish 1      @1  #= 20 0/0 1/1
+     request 1 0   @1  #= 20 0/0 1/1
+     request 1 1   @1  #= 20 0/0 1/1
+     complete 1 1  @1  #= 20 0/0 1/1
+     complete 1 0  @1  #= 20 0/0 1/1
      ''')
 
 case('21: a finish with a long open, and with a short open',
      setup(1, [10], 'long short'), '''
-     arrive 0      @0  0 0/0
-     request 0 0   @0  0 0/0
-     finish 0      @0  21 0/0
-     complete 0 0  @1  0 0/0
-     request 0 1   @1  0 0/0
-     finish 0      @1  21 0/0
-     complete 0 1  @2  0 0/0
-     finish 0      @2  0 -/-
+     arrive 0      @0  #= 0 0/0
+     request 0 0   @0  #= 0 0/0
+     finish 0      @0  #= 21 0/0
+     complete 0 0  @1  #= 0 0/0
+     request 0 1   @1  #= 0 0/0
+     finish 0      @1  #= 21 0/0
+     complete 0 1  @2  #= 0 0/0
+     finish 0      @2  #= 0 -/-
      ''')
 
 case('22: a request already open for that resource, before 23',
      setup(1, [10], 'long short'), '''
-     arrive 0     @0  0 0/0
-     request 0 0  @0  0 0/0
-     request 0 0  @0  22 0/0
-     request 0 1  @0  0 0/0
-     request 0 1  @0  22 0/0
-     request 0 0  @0  22 0/0   # a long while a short is open, too
+     arrive 0     @0  #= 0 0/0
+     request 0 0  @0  #= 0 0/0
+     request 0 0  @0  #= 22 0/0
+     request 0 1  @0  #= 0 0/0
+     request 0 1  @0  #= 22 0/0
+     request 0 0  @0  #= 22 0/0   # a long while a short is open, too
      ''')
 
 case('23: a long while a short is open',
      setup(1, [10], 'long short'), '''
-     arrive 0     @0  0 0/0
-     request 0 1  @0  0 0/0
-     request 0 0  @0  23 0/0
+     arrive 0     @0  #= 0 0/0
+     request 0 1  @0  #= 0 0/0
+     request 0 0  @0  #= 23 0/0
      ''')
 
 # The pair joins the two longs: it is the open short that refuses.
 case('23: a long of the group held, while a short is open',
      setup(1, [10], 'long short long', [(0, 2)]), '''
-     arrive 0      @0  0 0/0
-     request 0 0   @0  0 0/0
-     request 0 1   @0  0 0/0
-     request 0 2   @0  23 0/0
-     complete 0 1  @0  0 0/0
-     request 0 2   @0  0 0/0
+     arrive 0      @0  #= 0 0/0
+     request 0 0   @0  #= 0 0/0
+     request 0 1   @0  #= 0 0/0
+     request 0 2   @0  #= 23 0/0
+     complete 0 1  @0  #= 0 0/0
+     request 0 2   @0  #= 0 0/0
      ''')
 
 case('23: a short open in another group',
      setup(1, [10], 'short short'), '''
-     arrive 0     @0  0 0/0
-     request 0 0  @0  0 0/0
-     request 0 1  @0  23 0/0
+     arrive 0     @0  #= 0 0/0
+     request 0 0  @0  #= 0 0/0
+     request 0 1  @0  #= 23 0/0
      ''')
 
 case('23: a long open in another group',
      setup(1, [10], 'long long'), '''
-     arrive 0     @0  0 0/0
-     request 0 1  @0  0 0/0
-     request 0 0  @0  23 0/0
+     arrive 0     @0  #= 0 0/0
+     request 0 1  @0  #= 0 0/0
+     request 0 0  @0  #= 23 0/0
      ''')
 
 # Resources 0 to 8 are one short group, 9 is a group alone.
 NINE = [(n, n + 1) for n in range(8)]
-EIGHT_OPEN = '     arrive 0 @0 0 0/0\n' + ''.join(
-    f'     request 0 {n} @0 0 0/0\n' for n in range(8))
+EIGHT_OPEN = '     arrive 0 @0  #= 0 0/0\n' + ''.join(
+    f'     request 0 {n} @0  #= 0 0/0\n' for n in range(8))
 
 case('24: a ninth open request, after 22 and 23',
      setup(1, [10], 'short ' * 10, NINE), EIGHT_OPEN + '''
-     request 0 8   @0  24 0/0
-     request 0 7   @0  22 0/0
-     request 0 9   @0  23 0/0
-     complete 0 7  @1  0 0/0
-     request 0 8   @1  0 0/0
-     request 0 7   @1  24 0/0
+     request 0 8   @0  #= 24 0/0
+     request 0 7   @0  #= 22 0/0
+     request 0 9   @0  #= 23 0/0
+     complete 0 7  @1  #= 0 0/0
+     request 0 8   @1  #= 0 0/0
+     request 0 7   @1  #= 24 0/0
      ''')
 
 # Resources 0 to 2 are one long group, 3 to 8 one short group.
 case('24: longs and shorts count together',
      setup(1, [10], 'long ' * 3 + 'short ' * 6,
            [(0, 1), (1, 2), (3, 4), (4, 5), (5, 6), (6, 7), (7, 8)]), EIGHT_OPEN + '''
-     request 0 8   @0  24 0/0
+     request 0 8   @0  #= 24 0/0
      ''')
 
 case('25: not the newest open request, or nothing open',
      setup(1, [10], 'short short short', [(0, 1)]), '''
-     arrive 0      @0  0 0/0
-     complete 0 0  @0  25 0/0
-     request 0 0   @0  0 0/0
-     request 0 1   @0  0 0/0
-     complete 0 0  @0  25 0/0
-     complete 0 2  @0  25 0/0
-     complete 0 1  @0  0 0/0
-     complete 0 1  @0  25 0/0
-     complete 0 0  @0  0 0/0
-     complete 0 0  @0  25 0/0
+     arrive 0      @0  #= 0 0/0
+     complete 0 0  @0  #= 25 0/0
+     request 0 0   @0  #= 0 0/0
+     request 0 1   @0  #= 0 0/0
+     complete 0 0  @0  #= 25 0/0
+     complete 0 2  @0  #= 25 0/0
+     complete 0 1  @0  #= 0 0/0
+     complete 0 1  @0  #= 25 0/0
+     complete 0 0  @0  #= 0 0/0
+     complete 0 0  @0  #= 25 0/0
      ''')
 
 # =====================================================================
@@ -785,112 +776,112 @@ case('25: not the newest open request, or nothing open',
 
 case('arrive: to the lowest-numbered unlinked processor',
      setup(3, [10, 20, 30, 40]), '''
-     arrive 3  @0  0 3/3 -/- -/-
-     arrive 2  @0  0 3/3 2/2 -/-
-     arrive 1  @0  0 3/3 2/2 1/1
-     finish 3  @1  0 -/- 2/2 1/1
-     finish 2  @1  0 -/- -/- 1/1
-     arrive 0  @1  0 0/0 -/- 1/1
+     arrive 3  @0  #= 0 3/3 -/- -/-
+     arrive 2  @0  #= 0 3/3 2/2 -/-
+     arrive 1  @0  #= 0 3/3 2/2 1/1
+     finish 3  @1  #= 0 -/- 2/2 1/1
+     finish 2  @1  #= 0 -/- -/- 1/1
+     arrive 0  @1  #= 0 0/0 -/- 1/1
      ''')
 
 case('arrive: of equal deadlines the lower task number is higher',
      setup(1, [100, 100, 100]), '''
-     arrive 1  @0  0 1/1
-     arrive 2  @0  0 1/1
-     arrive 0  @0  0 0/0
-     finish 0  @1  0 1/1
-     finish 1  @1  0 2/2
-     task 0 1 0 0 0 0
-     task 1 0 0 0 1 0
-     task 2 0 0 0 1 0
+     arrive 1  @0  #= 0 1/1
+     arrive 2  @0  #= 0 1/1
+     arrive 0  @0  #= 0 0/0
+     finish 0  @1  #= 0 1/1
+     finish 1  @1  #= 0 2/2
+     #= task 0 1 0 0 0 0
+     #= task 1 0 0 0 1 0
+     #= task 2 0 0 0 1 0
      ''')
 
 case('arrive: the lowest-priority linked job is displaced, not the running preemptable one',
      setup(2, [100, 300, 50], 'short'), '''
-     arrive 0      @0  0 0/0 -/-
-     arrive 1      @0  0 0/0 1/1
-     request 1 0   @0  0 0/0 1/1
-     arrive 2      @1  0 0/0 2/1   # the slip preempts 0
-     complete 1 0  @3  0 0/0 2/2
-     task 0 3 0 0 0 0
-     task 1 3 0 0 0 0
-     task 2 0 0 2 0 0
+     arrive 0      @0  #= 0 0/0 -/-
+     arrive 1      @0  #= 0 0/0 1/1
+     request 1 0   @0  #= 0 0/0 1/1
+     arrive 2      @1  #= 0 0/0 2/1   # the slip preempts 0
+     complete 1 0  @3  #= 0 0/0 2/2
+     #= task 0 3 0 0 0 0
+     #= task 1 3 0 0 0 0
+     #= task 2 0 0 2 0 0
      ''', told={slips.PreemptsRunning: 4})
 
 case('arrive: the displaced job is linked but not running, so the comer does not run',
      setup(1, [300, 200, 100], 'short'), '''
-     arrive 0      @0  0 0/0
-     request 0 0   @0  0 0/0
-     arrive 1      @1  0 1/0
-     arrive 2      @2  0 2/0   # 1 is preemptable, but does not run
-     complete 0 0  @4  0 2/2
-     finish 2      @5  0 1/1
-     task 0 4 0 0 1 0
-     task 1 0 0 1 3 0
-     task 2 1 0 2 0 0
+     arrive 0      @0  #= 0 0/0
+     request 0 0   @0  #= 0 0/0
+     arrive 1      @1  #= 0 1/0
+     arrive 2      @2  #= 0 2/0   # 1 is preemptable, but does not run
+     complete 0 0  @4  #= 0 2/2
+     finish 2      @5  #= 0 1/1
+     #= task 0 4 0 0 1 0
+     #= task 1 0 0 1 3 0
+     #= task 2 1 0 2 0 0
      ''', told={slips.RunsDisplacing: 4})
 
 case('deadlines: 32,760 and 32,770 compare wrongly as signed 16-bit numbers',
      setup(1, [32760, 32770]), '''
-     arrive 0  @0  0 0/0
-     arrive 1  @0  0 0/0   # the slip gives 1/1
+     arrive 0  @0  #= 0 0/0
+     arrive 1  @0  #= 0 0/0   # the slip gives 1/1
      ''', told={slips.SignedDeadlines: 2})
 
 case('deadlines: 1 and 65,535 compare wrongly by a signed 16-bit difference',
      setup(1, [65535, 1]), '''
-     arrive 0  @0  0 0/0
-     arrive 1  @0  0 1/1   # the slip leaves 0/0
+     arrive 0  @0  #= 0 0/0
+     arrive 1  @0  #= 0 1/1   # the slip leaves 0/0
      ''', told={slips.SignedDifference: 2})
 
 case('deadlines: past 4,294,967,295 they are held wider',
      setup(1, [100, 5, 50], start=4294967290), '''
-     arrive 0  @65530  0 0/0
-     arrive 1  @65530  0 1/1   # deadline 4,294,967,295; held in 32 bits, 0's would be 94
-     arrive 2  @65531  0 1/1
-     finish 1  @65533  0 2/2   # both deadlines past the end: 2's is the earlier
-     finish 2  @65535  0 0/0
-     task 0 0 0 0 5 0
-     task 1 3 0 0 0 0
-     task 2 2 0 0 2 0
+     arrive 0  @65530  #= 0 0/0
+     arrive 1  @65530  #= 0 1/1   # deadline 4,294,967,295; held in 32 bits, 0's would be 94
+     arrive 2  @65531  #= 0 1/1
+     finish 1  @65533  #= 0 2/2   # both deadlines past the end: 2's is the earlier
+     finish 2  @65535  #= 0 0/0
+     #= task 0 0 0 0 5 0
+     #= task 1 3 0 0 0 0
+     #= task 2 2 0 0 2 0
      ''', told={slips.NarrowDeadlines: 2})
 
 case('finish: the highest-priority unlinked job is linked to k and runs there',
      setup(2, [100, 200, 400, 300]), '''
-     arrive 0  @0  0 0/0 -/-
-     arrive 1  @0  0 0/0 1/1
-     arrive 2  @0  0 0/0 1/1
-     arrive 3  @0  0 0/0 1/1
-     finish 1  @2  0 0/0 3/3
-     finish 0  @5  0 2/2 3/3
-     task 2 0 0 0 5 0
-     task 3 3 0 0 2 0
+     arrive 0  @0  #= 0 0/0 -/-
+     arrive 1  @0  #= 0 0/0 1/1
+     arrive 2  @0  #= 0 0/0 1/1
+     arrive 3  @0  #= 0 0/0 1/1
+     finish 1  @2  #= 0 0/0 3/3
+     finish 0  @5  #= 0 2/2 3/3
+     #= task 2 0 0 0 5 0
+     #= task 3 3 0 0 2 0
      ''')
 
 case('totals: a job on a processor is running or spinning, linked or not',
      setup(2, [400, 300, 200, 100], 'short'), '''
-     arrive 0      @0   0 0/0 -/-
-     arrive 1      @0   0 0/0 1/1
-     request 0 0   @0   0 0/0 1/1
-     request 1 0   @0   0 0/0 1/1
-     arrive 2      @1   0 2/0 1/1
-     arrive 3      @2   0 2/0 3/1
-     pass          @9   0 2/0 3/1
-     complete 0 0  @10  0 2/2 3/1
-     complete 1 0  @12  0 2/2 3/3
-     task 0 10 0 0 2 0
-     task 1 2 10 0 0 0
-     task 2 2 0 9 0 0
-     task 3 0 0 10 0 0
+     arrive 0      @0   #= 0 0/0 -/-
+     arrive 1      @0   #= 0 0/0 1/1
+     request 0 0   @0   #= 0 0/0 1/1
+     request 1 0   @0   #= 0 0/0 1/1
+     arrive 2      @1   #= 0 2/0 1/1
+     arrive 3      @2   #= 0 2/0 3/1
+     pass          @9   #= 0 2/0 3/1
+     complete 0 0  @10  #= 0 2/2 3/1
+     complete 1 0  @12  #= 0 2/2 3/3
+     #= task 0 10 0 0 2 0
+     #= task 1 2 10 0 0 0
+     #= task 2 2 0 9 0 0
+     #= task 3 0 0 10 0 0
      ''')
 
 case('refused events: counted in the numbers, moving neither clock nor totals',
      setup(1, [10]), '''
-     arrive 0  @5   0 0/0
-     arrive 0  @9   16 0/0
-     pass      @4   14 0/0
-     finish 0  @10  0 -/-
-     finish 0  @11  18 -/-
-     task 0 5 0 0 0 0
+     arrive 0  @5   #= 0 0/0
+     arrive 0  @9   #= 16 0/0
+     pass      @4   #= 14 0/0
+     finish 0  @10  #= 0 -/-
+     finish 0  @11  #= 18 -/-
+     #= task 0 5 0 0 0 0
      ''')
 
 # =====================================================================
@@ -899,54 +890,54 @@ case('refused events: counted in the numbers, moving neither clock nor totals',
 
 case('short: a spinner is granted by a completion',
      setup(2, [100, 200], 'short'), '''
-     arrive 0      @0  0 0/0 -/-
-     arrive 1      @0  0 0/0 1/1
-     request 1 0   @1  0 0/0 1/1
-     request 0 0   @2  0 0/0 1/1
-     complete 0 0  @3  20 0/0 1/1
-     complete 1 0  @5  0 0/0 1/1
-     complete 0 0  @6  0 0/0 1/1
-     task 0 3 3 0 0 0
-     task 1 6 0 0 0 0
+     arrive 0      @0  #= 0 0/0 -/-
+     arrive 1      @0  #= 0 0/0 1/1
+     request 1 0   @1  #= 0 0/0 1/1
+     request 0 0   @2  #= 0 0/0 1/1
+     complete 0 0  @3  #= 20 0/0 1/1
+     complete 1 0  @5  #= 0 0/0 1/1
+     complete 0 0  @6  #= 0 0/0 1/1
+     #= task 0 3 3 0 0 0
+     #= task 1 6 0 0 0 0
      ''')
 
 case('short: spinners are granted in the order they asked, not by priority',
      setup(3, [100, 200, 300], 'short'), '''
-     arrive 0      @0  0 0/0 -/- -/-
-     arrive 1      @0  0 0/0 1/1 -/-
-     arrive 2      @0  0 0/0 1/1 2/2
-     request 1 0   @0  0 0/0 1/1 2/2
-     request 2 0   @1  0 0/0 1/1 2/2
-     request 0 0   @2  0 0/0 1/1 2/2
-     complete 1 0  @4  0 0/0 1/1 2/2
-     complete 0 0  @5  20 0/0 1/1 2/2
-     complete 2 0  @7  0 0/0 1/1 2/2
-     complete 0 0  @9  0 0/0 1/1 2/2
-     task 0 4 5 0 0 0
-     task 2 6 3 0 0 0
+     arrive 0      @0  #= 0 0/0 -/- -/-
+     arrive 1      @0  #= 0 0/0 1/1 -/-
+     arrive 2      @0  #= 0 0/0 1/1 2/2
+     request 1 0   @0  #= 0 0/0 1/1 2/2
+     request 2 0   @1  #= 0 0/0 1/1 2/2
+     request 0 0   @2  #= 0 0/0 1/1 2/2
+     complete 1 0  @4  #= 0 0/0 1/1 2/2
+     complete 0 0  @5  #= 20 0/0 1/1 2/2
+     complete 2 0  @7  #= 0 0/0 1/1 2/2
+     complete 0 0  @9  #= 0 0/0 1/1 2/2
+     #= task 0 4 5 0 0 0
+     #= task 2 6 3 0 0 0
      ''')
 
 case('short: an inner completion is no more than closed',
      setup(1, [200, 100], 'short short', [(0, 1)]), '''
-     arrive 0      @0  0 0/0
-     request 0 0   @0  0 0/0
-     request 0 1   @0  0 0/0
-     arrive 1      @1  0 1/0
-     complete 0 1  @2  0 1/0   # still non-preemptable
-     complete 0 0  @3  0 1/1
+     arrive 0      @0  #= 0 0/0
+     request 0 0   @0  #= 0 0/0
+     request 0 1   @0  #= 0 0/0
+     arrive 1      @1  #= 0 1/0
+     complete 0 1  @2  #= 0 1/0   # still non-preemptable
+     complete 0 0  @3  #= 0 1/1
      ''')
 
 case('short: a spinner that becomes holder stays non-preemptable though another is linked',
      setup(2, [200, 300, 100], 'short'), '''
-     arrive 0      @0  0 0/0 -/-
-     arrive 1      @0  0 0/0 1/1
-     request 0 0   @0  0 0/0 1/1
-     request 1 0   @1  0 0/0 1/1
-     arrive 2      @2  0 0/0 2/1
-     complete 0 0  @4  0 0/0 2/1
-     complete 1 0  @5  0 0/0 2/2
-     task 1 2 3 0 0 0
-     task 2 0 0 3 0 0
+     arrive 0      @0  #= 0 0/0 -/-
+     arrive 1      @0  #= 0 0/0 1/1
+     request 0 0   @0  #= 0 0/0 1/1
+     request 1 0   @1  #= 0 0/0 1/1
+     arrive 2      @2  #= 0 0/0 2/1
+     complete 0 0  @4  #= 0 0/0 2/1
+     complete 1 0  @5  #= 0 0/0 2/2
+     #= task 1 2 3 0 0 0
+     #= task 2 0 0 3 0 0
      ''')
 
 # =====================================================================
@@ -955,191 +946,191 @@ case('short: a spinner that becomes holder stays non-preemptable though another 
 
 case('long: an inner completion is no more than closed',
      setup(2, [100, 200], 'long long', [(0, 1)]), '''
-     arrive 0      @0  0 0/0 -/-
-     arrive 1      @0  0 0/0 1/1
-     request 1 1   @1  0 0/0 1/1
-     request 1 0   @1  0 0/0 1/1   # granted at once, though the pair has it as the outer
-     request 0 0   @2  0 -/- 1/1
-     complete 1 0  @4  0 -/- 1/1   # 0 is not resumed
-     complete 1 1  @5  0 0/0 1/1
-     complete 0 0  @6  0 0/0 1/1
-     task 0 3 0 0 0 3
-     task 1 6 0 0 0 0
+     arrive 0      @0  #= 0 0/0 -/-
+     arrive 1      @0  #= 0 0/0 1/1
+     request 1 1   @1  #= 0 0/0 1/1
+     request 1 0   @1  #= 0 0/0 1/1   # granted at once, though the pair has it as the outer
+     request 0 0   @2  #= 0 -/- 1/1
+     complete 1 0  @4  #= 0 -/- 1/1   # 0 is not resumed
+     complete 1 1  @5  #= 0 0/0 1/1
+     complete 0 0  @6  #= 0 0/0 1/1
+     #= task 0 3 0 0 0 3
+     #= task 1 6 0 0 0 0
      ''')
 
 case('long: a short inside a long makes the holder non-preemptable while it is open',
      setup(1, [200, 100], 'long short', [(0, 1)]), '''
-     arrive 0      @0  0 0/0
-     request 0 0   @0  0 0/0
-     request 0 1   @0  0 0/0
-     arrive 1      @1  0 1/0
-     complete 0 1  @2  0 1/1
-     finish 1      @3  0 0/0
-     complete 0 0  @4  0 0/0
-     task 0 3 0 0 1 0
-     task 1 1 0 1 0 0
+     arrive 0      @0  #= 0 0/0
+     request 0 0   @0  #= 0 0/0
+     request 0 1   @0  #= 0 0/0
+     arrive 1      @1  #= 0 1/0
+     complete 0 1  @2  #= 0 1/1
+     finish 1      @3  #= 0 0/0
+     complete 0 0  @4  #= 0 0/0
+     #= task 0 3 0 0 1 0
+     #= task 1 1 0 1 0 0
      ''')
 
 case('long: the holder inherits before the waiter suspends',
      setup(1, [300, 100, 200], 'long'), '''
-     arrive 0      @0  0 0/0
-     request 0 0   @0  0 0/0
-     arrive 2      @1  0 2/2
-     arrive 1      @2  0 1/1
-     request 1 0   @3  0 0/0   # the slip links 2
-     complete 0 0  @5  0 1/1
-     task 0 3 0 0 2 0
-     task 1 1 0 0 0 2
-     task 2 1 0 0 3 0
+     arrive 0      @0  #= 0 0/0
+     request 0 0   @0  #= 0 0/0
+     arrive 2      @1  #= 0 2/2
+     arrive 1      @2  #= 0 1/1
+     request 1 0   @3  #= 0 0/0   # the slip links 2
+     complete 0 0  @5  #= 0 1/1
+     #= task 0 3 0 0 2 0
+     #= task 1 1 0 0 0 2
+     #= task 2 1 0 0 3 0
      ''', told={slips.SuspendsFirst: 5})
 
 # Queue 1, 3, 2; at the completion by 0 two are still queued behind 1.
 case('long: the inheritance is kept when the lock passes on with two still queued',
      setup(1, [400, 300, 100, 250, 200], 'long'), '''
-     arrive 0      @0  0 0/0
-     request 0 0   @0  0 0/0
-     arrive 1      @0  0 1/1
-     request 1 0   @0  0 0/0
-     arrive 3      @0  0 3/3
-     request 3 0   @0  0 0/0
-     arrive 2      @0  0 2/2
-     request 2 0   @0  0 0/0
-     arrive 4      @0  0 0/0
-     complete 0 0  @1  0 1/1   # without 2's priority counted 1 is below 4: 4/4
-     complete 1 0  @2  0 3/3   # likewise 3
-     complete 3 0  @4  0 2/2
-     complete 2 0  @7  0 2/2
-     finish 2      @8  0 4/4
-     task 0 1 0 0 7 0
-     task 1 1 0 0 6 1
-     task 2 4 0 0 0 4
-     task 3 2 0 0 4 2
-     task 4 0 0 0 8 0
+     arrive 0      @0  #= 0 0/0
+     request 0 0   @0  #= 0 0/0
+     arrive 1      @0  #= 0 1/1
+     request 1 0   @0  #= 0 0/0
+     arrive 3      @0  #= 0 3/3
+     request 3 0   @0  #= 0 0/0
+     arrive 2      @0  #= 0 2/2
+     request 2 0   @0  #= 0 0/0
+     arrive 4      @0  #= 0 0/0
+     complete 0 0  @1  #= 0 1/1   # without 2's priority counted 1 is below 4: 4/4
+     complete 1 0  @2  #= 0 3/3   # likewise 3
+     complete 3 0  @4  #= 0 2/2
+     complete 2 0  @7  #= 0 2/2
+     finish 2      @8  #= 0 4/4
+     #= task 0 1 0 0 7 0
+     #= task 1 1 0 0 6 1
+     #= task 2 4 0 0 0 4
+     #= task 3 2 0 0 4 2
+     #= task 4 0 0 0 8 0
      ''', told={slips.DropsInheritance: 10})
 
 case('long: a completer that no unlinked job is above keeps its link',
      setup(1, [100, 200, 50], 'long'), '''
-     arrive 0      @0  0 0/0
-     request 0 0   @0  0 0/0
-     arrive 1      @0  0 0/0
-     complete 0 0  @1  0 0/0
-     finish 0      @2  0 1/1
-     task 0 2 0 0 0 0
-     task 1 0 0 0 2 0
+     arrive 0      @0  #= 0 0/0
+     request 0 0   @0  #= 0 0/0
+     arrive 1      @0  #= 0 0/0
+     complete 0 0  @1  #= 0 0/0
+     finish 0      @2  #= 0 1/1
+     #= task 0 2 0 0 0 0
+     #= task 1 0 0 0 2 0
      ''')
 
 case('long: a resumed job below every linked one stays unlinked',
      setup(2, [50, 300, 100], 'long'), '''
-     arrive 0      @0  0 0/0 -/-
-     request 0 0   @0  0 0/0 -/-
-     arrive 1      @0  0 0/0 1/1
-     request 1 0   @1  0 0/0 -/-
-     arrive 2      @1  0 0/0 2/2
-     complete 0 0  @3  0 0/0 2/2
-     finish 0      @5  0 1/1 2/2
-     task 1 1 0 0 2 2
+     arrive 0      @0  #= 0 0/0 -/-
+     request 0 0   @0  #= 0 0/0 -/-
+     arrive 1      @0  #= 0 0/0 1/1
+     request 1 0   @1  #= 0 0/0 -/-
+     arrive 2      @1  #= 0 0/0 2/2
+     complete 0 0  @3  #= 0 0/0 2/2
+     finish 0      @5  #= 0 1/1 2/2
+     #= task 1 1 0 0 2 2
      ''')
 
 case('long: a resumed job goes to an unlinked processor',
      setup(2, [200, 100], 'long'), '''
-     arrive 0      @0  0 0/0 -/-
-     request 0 0   @0  0 0/0 -/-
-     arrive 1      @0  0 0/0 1/1
-     request 1 0   @1  0 0/0 -/-
-     complete 0 0  @3  0 0/0 1/1
-     complete 1 0  @4  0 0/0 1/1
-     task 1 2 0 0 0 2
+     arrive 0      @0  #= 0 0/0 -/-
+     request 0 0   @0  #= 0 0/0 -/-
+     arrive 1      @0  #= 0 0/0 1/1
+     request 1 0   @1  #= 0 0/0 -/-
+     complete 0 0  @3  #= 0 0/0 1/1
+     complete 1 0  @4  #= 0 0/0 1/1
+     #= task 1 2 0 0 0 2
      ''')
 
 case('long: a resumed job takes the link of a non-preemptable one and does not run',
      setup(2, [200, 100, 300], 'long short'), '''
-     arrive 0      @0  0 0/0 -/-
-     request 0 0   @0  0 0/0 -/-
-     arrive 1      @0  0 0/0 1/1
-     request 1 0   @1  0 0/0 -/-
-     arrive 2      @1  0 0/0 2/2
-     request 2 1   @1  0 0/0 2/2
-     complete 0 0  @2  0 0/0 1/2
-     complete 2 1  @4  0 0/0 1/1
-     task 0 4 0 0 0 0
-     task 1 1 0 2 0 1
-     task 2 3 0 0 0 0
+     arrive 0      @0  #= 0 0/0 -/-
+     request 0 0   @0  #= 0 0/0 -/-
+     arrive 1      @0  #= 0 0/0 1/1
+     request 1 0   @1  #= 0 0/0 -/-
+     arrive 2      @1  #= 0 0/0 2/2
+     request 2 1   @1  #= 0 0/0 2/2
+     complete 0 0  @2  #= 0 0/0 1/2
+     complete 2 1  @4  #= 0 0/0 1/1
+     #= task 0 4 0 0 0 0
+     #= task 1 1 0 2 0 1
+     #= task 2 3 0 0 0 0
      ''')
 
 case('long: a job suspended on a holder that itself spins',
      setup(2, [300, 200, 100], 'long short'), '''
-     arrive 0      @0  0 0/0 -/-
-     request 0 0   @0  0 0/0 -/-
-     arrive 2      @0  0 0/0 2/2
-     request 2 0   @1  0 0/0 -/-   # waits for 0
-     arrive 1      @1  0 0/0 1/1
-     request 1 1   @1  0 0/0 1/1
-     request 0 1   @2  0 0/0 1/1   # waits for 1
-     complete 0 1  @3  20 0/0 1/1
-     complete 1 1  @5  0 0/0 1/1
-     complete 0 1  @6  0 0/0 1/1
-     complete 0 0  @7  0 2/2 1/1
-     task 0 4 3 0 0 0
-     task 1 6 0 0 0 0
-     task 2 1 0 0 0 6
+     arrive 0      @0  #= 0 0/0 -/-
+     request 0 0   @0  #= 0 0/0 -/-
+     arrive 2      @0  #= 0 0/0 2/2
+     request 2 0   @1  #= 0 0/0 -/-   # waits for 0
+     arrive 1      @1  #= 0 0/0 1/1
+     request 1 1   @1  #= 0 0/0 1/1
+     request 0 1   @2  #= 0 0/0 1/1   # waits for 1
+     complete 0 1  @3  #= 20 0/0 1/1
+     complete 1 1  @5  #= 0 0/0 1/1
+     complete 0 1  @6  #= 0 0/0 1/1
+     complete 0 0  @7  #= 0 2/2 1/1
+     #= task 0 4 3 0 0 0
+     #= task 1 6 0 0 0 0
+     #= task 2 1 0 0 0 6
      ''')
 
 case('runs non-preemptably on q: in two finishes, the higher of two such jobs first',
      setup(3, [100, 200, 300, 50, 60], 'short'), '''
-     arrive 0      @0  0 0/0 -/- -/-
-     arrive 1      @0  0 0/0 1/1 -/-
-     arrive 2      @0  0 0/0 1/1 2/2
-     request 2 0   @0  0 0/0 1/1 2/2
-     request 1 0   @0  0 0/0 1/1 2/2
-     arrive 3      @1  0 0/0 1/1 3/2
-     arrive 4      @1  0 0/0 4/1 3/2
-     finish 0      @2  0 4/4 1/1 3/2   # 1 is the higher of 1 and 2; it spins
-     finish 4      @3  0 3/3 1/1 2/2
-     task 1 0 3 0 0 0
-     task 2 3 0 0 0 0
-     task 3 0 0 2 0 0
-     task 4 1 0 1 0 0
+     arrive 0      @0  #= 0 0/0 -/- -/-
+     arrive 1      @0  #= 0 0/0 1/1 -/-
+     arrive 2      @0  #= 0 0/0 1/1 2/2
+     request 2 0   @0  #= 0 0/0 1/1 2/2
+     request 1 0   @0  #= 0 0/0 1/1 2/2
+     arrive 3      @1  #= 0 0/0 1/1 3/2
+     arrive 4      @1  #= 0 0/0 4/1 3/2
+     finish 0      @2  #= 0 4/4 1/1 3/2   # 1 is the higher of 1 and 2; it spins
+     finish 4      @3  #= 0 3/3 1/1 2/2
+     #= task 1 0 3 0 0 0
+     #= task 2 3 0 0 0 0
+     #= task 3 0 0 2 0 0
+     #= task 4 1 0 1 0 0
      ''', moved='finish finish', told={slips.StaysOnQ: 8})
 
 case('runs non-preemptably on q: in a suspension, by the holder itself',
      setup(2, [100, 300, 50], 'long short'), '''
-     arrive 1     @0  0 1/1 -/-
-     request 1 0  @0  0 1/1 -/-
-     request 1 1  @0  0 1/1 -/-
-     arrive 0     @0  0 1/1 0/0
-     arrive 2     @1  0 2/1 0/0
-     request 0 0  @2  0 1/1 2/2
-     task 0 2 0 0 0 0
-     task 1 2 0 0 0 0
-     task 2 0 0 1 0 0
+     arrive 1     @0  #= 0 1/1 -/-
+     request 1 0  @0  #= 0 1/1 -/-
+     request 1 1  @0  #= 0 1/1 -/-
+     arrive 0     @0  #= 0 1/1 0/0
+     arrive 2     @1  #= 0 2/1 0/0
+     request 0 0  @2  #= 0 1/1 2/2
+     #= task 0 2 0 0 0 0
+     #= task 1 2 0 0 0 0
+     #= task 2 0 0 1 0 0
      ''', moved='request', told={slips.StaysOnQ: 6})
 
 case('runs non-preemptably on q: in a suspension, by another than the holder',
      setup(3, [100, 300, 50, 40], 'long short'), '''
-     arrive 0     @0  0 0/0 -/- -/-
-     arrive 1     @0  0 0/0 1/1 -/-
-     request 1 1  @0  0 0/0 1/1 -/-
-     arrive 3     @0  0 0/0 1/1 3/3
-     request 3 0  @0  0 0/0 1/1 3/3
-     arrive 2     @1  0 0/0 2/1 3/3
-     request 0 0  @2  0 2/2 1/1 3/3
+     arrive 0     @0  #= 0 0/0 -/- -/-
+     arrive 1     @0  #= 0 0/0 1/1 -/-
+     request 1 1  @0  #= 0 0/0 1/1 -/-
+     arrive 3     @0  #= 0 0/0 1/1 3/3
+     request 3 0  @0  #= 0 0/0 1/1 3/3
+     arrive 2     @1  #= 0 0/0 2/1 3/3
+     request 0 0  @2  #= 0 2/2 1/1 3/3
      ''', moved='request', told={slips.StaysOnQ: 7})
 
 case('runs non-preemptably on q: in a long completion',
      setup(2, [400, 100, 200, 50], 'long short'), '''
-     arrive 0      @0  0 0/0 -/-
-     request 0 0   @0  0 0/0 -/-
-     arrive 1      @0  0 0/0 1/1
-     request 1 0   @0  0 0/0 -/-
-     arrive 2      @0  0 0/0 2/2
-     request 2 1   @0  0 0/0 2/2
-     arrive 3      @0  0 0/0 3/2
-     complete 0 0  @1  0 3/3 1/2   # 2 is linked to q, 3 moves to k; then 1 resumes over 2
-     complete 2 1  @2  0 3/3 1/1
-     task 0 1 0 0 1 0
-     task 1 0 0 1 0 1
-     task 2 2 0 0 0 0
-     task 3 1 0 1 0 0
+     arrive 0      @0  #= 0 0/0 -/-
+     request 0 0   @0  #= 0 0/0 -/-
+     arrive 1      @0  #= 0 0/0 1/1
+     request 1 0   @0  #= 0 0/0 -/-
+     arrive 2      @0  #= 0 0/0 2/2
+     request 2 1   @0  #= 0 0/0 2/2
+     arrive 3      @0  #= 0 0/0 3/2
+     complete 0 0  @1  #= 0 3/3 1/2   # 2 is linked to q, 3 moves to k; then 1 resumes over 2
+     complete 2 1  @2  #= 0 3/3 1/1
+     #= task 0 1 0 0 1 0
+     #= task 1 0 0 1 0 1
+     #= task 2 2 0 0 0 0
+     #= task 3 1 0 1 0 0
      ''', moved='complete', told={slips.StaysOnQ: 8})
 
 # =====================================================================
@@ -1148,33 +1139,33 @@ case('runs non-preemptably on q: in a long completion',
 
 case('clock: a session that wraps the 16-bit tick three times',
      setup(1, [65535], start=65000), '''
-     arrive 0  @65000  0 0/0
-     pass      @20000  0 0/0
-     pass      @50000  0 0/0
-     pass      @10000  0 0/0
-     pass      @40000  0 0/0
-     finish 0  @1000   0 -/-
-     task 0 132608 0 0 0 0
+     arrive 0  @65000  #= 0 0/0
+     pass      @20000  #= 0 0/0
+     pass      @50000  #= 0 0/0
+     pass      @10000  #= 0 0/0
+     pass      @40000  #= 0 0/0
+     finish 0  @1000   #= 0 -/-
+     #= task 0 132608 0 0 0 0
      ''')
 
 case('blocks: event numbers run on over three blocks and count refused events',
      setup(1, [10]), '''
-     arrive 0  @0  0 0/0
-     arrive 0  @1  16 0/0
-     ---
-     finish 1  @1  11 0/0
-     ---
-     finish 0  @9  0 -/-
-     pass      @9  0 -/-
-     task 0 9 0 0 0 0
+     arrive 0  @0  #= 0 0/0
+     arrive 0  @1  #= 16 0/0
+     block
+     finish 1  @1  #= 11 0/0
+     block
+     finish 0  @9  #= 0 -/-
+     pass      @9  #= 0 -/-
+     #= task 0 9 0 0 0 0
      ''')
 
 # 250 steps of 32,767 in three full blocks.
 case('totals: large, over three full blocks',
-     setup(1, [5, 6]), '     arrive 0 @0 0 0/0\n     arrive 1 @0 0 0/0\n' + ''.join(
-         f'     pass @{32767 * n % 65536} 0 0/0\n' for n in range(1, 251)) + '''
-     task 0 8191750 0 0 0 0
-     task 1 0 0 0 8191750 0
+     setup(1, [5, 6]), '     arrive 0 @0  #= 0 0/0\n     arrive 1 @0  #= 0 0/0\n' + ''.join(
+         f'     pass @{32767 * n % 65536}  #= 0 0/0\n' for n in range(1, 251)) + '''
+     #= task 0 8191750 0 0 0 0
+     #= task 1 0 0 0 8191750 0
      ''')
 
 
@@ -1190,7 +1181,7 @@ def full_house():
 
     def told(event, tick, k=0, place=None):
         places[k] = place or places[k]
-        play.append(f"{event} @{tick} 0 {' '.join(places)}")
+        play.append(f"{event} @{tick}  #= 0 {' '.join(places)}")
     for n in range(8):
         told(f'arrive {n}', 0, n, f'{n}/{n}')
         told(f'request {n} {16 + 2 * n}', 0)
@@ -1211,8 +1202,8 @@ def full_house():
         told(f'complete {k + 16} {2 * k}', 11)
         told(f'complete {k + 16} {2 * k + 1}', 11, k, f'{31 - k}/{31 - k}')
     for n in range(8):          # each ran until 16 to 23 came
-        play += [f'task {n} 2 0 0 9 0', f'task {n + 8} 0 0 0 0 10',
-                 f'task {n + 16} 9 0 0 0 0', f'task {n + 24} 0 0 8 0 0']
+        play += [f'#= task {n} 2 0 0 9 0', f'#= task {n + 8} 0 0 0 0 10',
+                 f'#= task {n + 16} 9 0 0 0 0', f'#= task {n + 24} 0 0 8 0 0']
     return '\n'.join(play)
 
 
@@ -1242,19 +1233,19 @@ case('8 processors, 32 tasks, 32 resources and 64 pairs, all busy',
 # The text's 'T2 is non-preemptively blocked over [1, 2.5)' is read as T3.
 case('source 002, Figure 3: a job is blocked at its release only, T1 never',
      setup(2, [40, 100, 20, 50, 20], 'short'), '''
-     arrive 0      @0   0 0/0 -/-
-     arrive 1      @0   0 0/0 1/1
-     request 1 0   @0   0 0/0 1/1
-     arrive 2      @2   0 0/0 2/1   # time 1: T3 linked to Processor 2, T1 not preempted
-     complete 1 0  @5   0 0/0 2/2   # time 2.5
-     finish 2      @6   0 0/0 1/1
-     arrive 3      @6   0 0/0 3/3
-     request 3 0   @6   0 0/0 3/3
-     arrive 4      @8   0 0/0 4/3   # time 4: T1 again not preempted
-     complete 3 0  @11  0 0/0 4/4   # time 5.5
-     task 0 11 0 0 0 0
-     task 2 1 0 3 0 0
-     task 4 0 0 3 0 0
+     arrive 0      @0   #= 0 0/0 -/-
+     arrive 1      @0   #= 0 0/0 1/1
+     request 1 0   @0   #= 0 0/0 1/1
+     arrive 2      @2   #= 0 0/0 2/1   # time 1: T3 linked to Processor 2, T1 not preempted
+     complete 1 0  @5   #= 0 0/0 2/2   # time 2.5
+     finish 2      @6   #= 0 0/0 1/1
+     arrive 3      @6   #= 0 0/0 3/3
+     request 3 0   @6   #= 0 0/0 3/3
+     arrive 4      @8   #= 0 0/0 4/3   # time 4: T1 again not preempted
+     complete 3 0  @11  #= 0 0/0 4/4   # time 5.5
+     #= task 0 11 0 0 0 0
+     #= task 2 1 0 3 0 0
+     #= task 4 0 0 3 0 0
      ''', told={slips.PreemptsRunning: 4})
 
 # Figure 4. The text of sections 3.1 and 3.2 and the caption fix: two processors;
@@ -1278,35 +1269,35 @@ case('source 002, Figure 3: a job is blocked at its release only, T1 never',
 case('source 002, Figure 4: short and long resources on two processors',
      setup(2, [200, 100, 60, 50], 'short short short long long long',
            [(1, 0), (5, 3), (5, 1), (4, 0)]), '''
-     arrive 0      @0   0 0/0 -/-
-     request 0 4   @0   0 0/0 -/-   # Y
-     arrive 1      @1   0 0/0 1/1
-     request 1 5   @1   0 0/0 1/1   # Z
-     request 0 0   @1   0 0/0 1/1   # A
-     request 1 1   @2   0 0/0 1/1   # time 1: B, spins
-     arrive 2      @3   0 2/0 1/1   # time 1.5: T3 linked to Processor 1
-     complete 0 0  @5   0 2/2 1/1   # time 2.5: T3 scheduled on Processor 1
-     request 1 0   @5   0 2/2 1/1   # A inside B
-     request 2 4   @6   0 0/0 1/1   # Y
-     arrive 3      @7   0 0/0 3/1
-     complete 0 4  @7   0 3/3 2/1
-     complete 1 0  @7   0 3/3 2/1
-     complete 1 1  @7   0 3/3 2/2
-     complete 2 4  @8   0 3/3 2/2
-     request 3 5   @10  0 1/1 2/2   # time 5: T4 suspends, T2 is scheduled
-     request 1 3   @11  0 1/1 2/2   # X inside Z
-     complete 1 3  @11  0 1/1 2/2
-     complete 1 5  @12  0 3/3 2/2   # time 6: T4 resumes
-     request 2 5   @15  0 3/3 1/1   # time 7.5: T3 suspends, T2 on Processor 2
-     request 1 2   @15  0 3/3 1/1   # C
-     complete 3 5  @17  0 3/3 2/1   # time 8.5: T3 linked, not scheduled
-     complete 1 2  @19  0 3/3 2/2   # time 9.5
-     complete 2 5  @20  0 3/3 2/2
-     finish 2      @20  0 3/3 1/1   # time 10
-     task 0 6 0 0 14 0
-     task 1 9 3 0 7 0               # T2 spins over [1, 2.5)
-     task 2 10 0 4 0 3              # T3 is blocked over [1.5, 2.5) and [8.5, 9.5)
-     task 3 11 0 0 0 2              # T4 is direct-blocked over [5, 6)
+     arrive 0      @0   #= 0 0/0 -/-
+     request 0 4   @0   #= 0 0/0 -/-   # Y
+     arrive 1      @1   #= 0 0/0 1/1
+     request 1 5   @1   #= 0 0/0 1/1   # Z
+     request 0 0   @1   #= 0 0/0 1/1   # A
+     request 1 1   @2   #= 0 0/0 1/1   # time 1: B, spins
+     arrive 2      @3   #= 0 2/0 1/1   # time 1.5: T3 linked to Processor 1
+     complete 0 0  @5   #= 0 2/2 1/1   # time 2.5: T3 scheduled on Processor 1
+     request 1 0   @5   #= 0 2/2 1/1   # A inside B
+     request 2 4   @6   #= 0 0/0 1/1   # Y
+     arrive 3      @7   #= 0 0/0 3/1
+     complete 0 4  @7   #= 0 3/3 2/1
+     complete 1 0  @7   #= 0 3/3 2/1
+     complete 1 1  @7   #= 0 3/3 2/2
+     complete 2 4  @8   #= 0 3/3 2/2
+     request 3 5   @10  #= 0 1/1 2/2   # time 5: T4 suspends, T2 is scheduled
+     request 1 3   @11  #= 0 1/1 2/2   # X inside Z
+     complete 1 3  @11  #= 0 1/1 2/2
+     complete 1 5  @12  #= 0 3/3 2/2   # time 6: T4 resumes
+     request 2 5   @15  #= 0 3/3 1/1   # time 7.5: T3 suspends, T2 on Processor 2
+     request 1 2   @15  #= 0 3/3 1/1   # C
+     complete 3 5  @17  #= 0 3/3 2/1   # time 8.5: T3 linked, not scheduled
+     complete 1 2  @19  #= 0 3/3 2/2   # time 9.5
+     complete 2 5  @20  #= 0 3/3 2/2
+     finish 2      @20  #= 0 3/3 1/1   # time 10
+     #= task 0 6 0 0 14 0
+     #= task 1 9 3 0 7 0               # T2 spins over [1, 2.5)
+     #= task 2 10 0 4 0 3              # T3 is blocked over [1.5, 2.5) and [8.5, 9.5)
+     #= task 3 11 0 0 0 2              # T4 is direct-blocked over [5, 6)
      ''', moved='complete')
 
 

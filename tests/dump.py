@@ -1,15 +1,8 @@
-#!/usr/bin/env python3
-"""An annotated hex dump of a block file, for people.
-
-    python3 tests/dump.py FILE
+"""An annotated hex dump of a block file, for people: bin/text --bytes.
 
 Per field its place in the file, its bytes and what they mean, with the reader's
 verdict on each block; refused blocks are shown as well. Runs of filler are one line.
 """
-
-import sys
-
-sys.dont_write_bytecode = True
 
 from model import (BLOCK, CHECK_AT, HEAD, KINDS_AT, MOST_PAIRS, MOST_RECORDS, MOST_RESOURCES,
                    MOST_TASKS, PAIRS_AT, PERIODS_AT, RECORD, check_of, number_at, verdict)
@@ -77,19 +70,12 @@ def shown(data):
     return f'{len(data)} bytes' + (f', {others} not 0' if others else ' of 00')
 
 
-def main(path):
-    with open(path, 'rb') as file:
-        data = file.read()
+def dump_of(data):
+    """The lines of the dump."""
     for at in range(0, max(len(data), 1), BLOCK):
         block, index = data[at:at + BLOCK], at // BLOCK
         refused = verdict(block, index)
-        print(f'block {index}: ' + (f'refused {refused}' if refused else 'accepted'))
+        yield f'block {index}: ' + (f'refused {refused}' if refused else 'accepted')
         fields = fields_of(block, index) if len(block) == BLOCK else [(0, len(block), 'too short')]
         for place, size, meaning in fields:
-            print(f'  {at + place:06x}  {shown(block[place:place + size]):26}  {meaning}')
-
-
-if __name__ == '__main__':
-    if len(sys.argv) != 2:
-        sys.exit(__doc__)
-    main(sys.argv[1])
+            yield f'  {at + place:06x}  {shown(block[place:place + size]):26}  {meaning}'
