@@ -79,7 +79,7 @@ fn tell_answers(call: u64, state: State)
     requires { ⌜ call < 1000 ⌝ }
 {
     tell(call, locking::judge(state, Event::NONE));
-    let reply = locking::step(state, e);
+    let reply = locking::step(state, Event::NONE);
     tell(call + 1, reply.answer);
     let mut written = [0u8; 34];
     locking::play(state, &[0u8; 12], &mut written);

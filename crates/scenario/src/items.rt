@@ -1,0 +1,211 @@
+// The items of a scenario, and the one that a line is.
+use crate::Argument;
+use crate::Form;
+use crate::Item;
+use crate::reading::blanks_end;
+use crate::reading::is_word;
+use crate::reading::read_argument;
+use crate::reading::said_end;
+use crate::reading::word_end;
+use input::Event;
+ghost use mathlib.Core.Path.{_≡_};
+ghost use Prim.Native.Nat.{_+_, _≤_, _<_};
+ghost use lib.ListN.{length, drop};
+ghost use Rattle.scenario.specs.Items.{aKind, itemCount, itemNamed, sortAt, itemOf};
+ghost use Rattle.scenario.specs.Reads.{IsForm};
+ghost use Rattle.scenario.specs.Items as spec;
+
+// The items' names, by number, and how many there are.
+const PROCESSORS: usize = 0;
+
+const START: usize = 1;
+
+const TASK: usize = 2;
+
+const RESOURCE: usize = 3;
+
+const PAIR: usize = 4;
+
+const ARRIVE: usize = 5;
+
+const FINISH: usize = 6;
+
+const REQUEST: usize = 7;
+
+const COMPLETE: usize = 8;
+
+const PASS: usize = 9;
+
+const EVENT: usize = 10;
+
+const BLOCK: usize = 11;
+
+const ITEMS: usize = 12;
+
+// What stands behind a name: nothing, a number, or words and a tick.
+const NOTHING: Form = Form(Form::NO_MORE, Form::NO_MORE, Form::NO_MORE, Form::NO_MORE);
+
+const A_CLOCK: Form = Form(Form::CLOCK, Form::NO_MORE, Form::NO_MORE, Form::NO_MORE);
+
+const A_PERIOD: Form = Form(Form::PERIOD, Form::NO_MORE, Form::NO_MORE, Form::NO_MORE);
+
+const A_KIND: Form = Form(Form::KIND, Form::NO_MORE, Form::NO_MORE, Form::NO_MORE);
+
+const TWO: Form = Form(Form::BYTE, Form::BYTE, Form::NO_MORE, Form::NO_MORE);
+
+const AT: Form = Form(Form::TICK, Form::NO_MORE, Form::NO_MORE, Form::NO_MORE);
+
+const ONE_AT: Form = Form(Form::BYTE, Form::TICK, Form::NO_MORE, Form::NO_MORE);
+
+const TWO_AT: Form = Form(Form::BYTE, Form::BYTE, Form::TICK, Form::NO_MORE);
+
+const THREE_AT: Form = Form(Form::BYTE, Form::BYTE, Form::BYTE, Form::TICK);
+
+// By item.
+const FORMS: [Form; ITEMS] = [
+    A_CLOCK,
+    A_CLOCK,
+    A_PERIOD,
+    A_KIND,
+    TWO,
+    ONE_AT,
+    ONE_AT,
+    TWO_AT,
+    TWO_AT,
+    AT,
+    THREE_AT,
+    NOTHING,
+];
+
+fn form_of(item: usize) -> Form
+    ensures { λ r. ⌜ IsForm item r ⌝ }
+{
+    if item < ITEMS { FORMS[item] } else { NOTHING }
+}
+
+// The item of a name, or past the last one.
+fn item_named(word: &[u8]) -> usize
+    ensures { λ r. ⌜ r ≡ itemNamed (now (word .entry)) ⌝ }
+{
+    let block = search::pick(is_word(word, b"block"), BLOCK, ITEMS);
+    let event = search::pick(is_word(word, b"event"), EVENT, block);
+    let pass = search::pick(is_word(word, b"pass"), PASS, event);
+    let complete = search::pick(is_word(word, b"complete"), COMPLETE, pass);
+    let request = search::pick(is_word(word, b"request"), REQUEST, complete);
+    let finish = search::pick(is_word(word, b"finish"), FINISH, request);
+    let arrive = search::pick(is_word(word, b"arrive"), ARRIVE, finish);
+    let pair = search::pick(is_word(word, b"pair"), PAIR, arrive);
+    let resource = search::pick(is_word(word, b"resource"), RESOURCE, pair);
+    let task = search::pick(is_word(word, b"task"), TASK, resource);
+    let start = search::pick(is_word(word, b"start"), START, task);
+    search::pick(is_word(word, b"processors"), PROCESSORS, start)
+}
+
+// ---- what an item says, with the values behind its name
+fn event(kind: u8, task: u8, resource: u8, tick: u16) -> Item {
+    Item::Happens(Event {
+        kind,
+        task,
+        resource,
+        tick,
+    })
+}
+
+fn event_of(item: usize, a: u32, b: u32, c: u32, d: u32) -> Item {
+    if item == ARRIVE {
+        return event(Event::ARRIVAL, a as u8, 0, b as u16);
+    }
+    if item == FINISH {
+        return event(Event::FINISH, a as u8, 0, b as u16);
+    }
+    if item == REQUEST {
+        return event(Event::REQUEST, a as u8, b as u8, c as u16);
+    }
+    if item == COMPLETE {
+        return event(Event::COMPLETION, a as u8, b as u8, c as u16);
+    }
+    if item == PASS {
+        return event(Event::PASSING, 0, 0, a as u16);
+    }
+    event(a as u8, b as u8, c as u8, d as u16)
+}
+
+fn said_by(item: usize, a: u32, b: u32, c: u32, d: u32) -> Item {
+    if item == PROCESSORS {
+        return Item::Processors(a);
+    }
+    if item == START {
+        return Item::Start(a);
+    }
+    if item == TASK {
+        return Item::Task(a as u16);
+    }
+    if item == RESOURCE {
+        return Item::Resource(a as u8);
+    }
+    if item == PAIR {
+        return Item::Pair(a as u8, b as u8);
+    }
+    if item == BLOCK {
+        return Item::Block;
+    }
+    event_of(item, a, b, c, d)
+}
+
+// What is wrong with a word that is not of its sort.
+fn unexpected(sort: u8) -> u8
+    requires { ⌜ sort ≤ aKind ⌝ }
+    ensures { λ r. ⌜ r ≡ spec.unexpected sort ⌝ }
+{
+    Item::WORD_TOO_MANY + sort
+}
+
+// One row for a word behind a name.
+fn misfit(sort: u8, argument: Argument, later: u8) -> u8 {
+    search::row(unexpected(sort), !argument.right, later)
+}
+
+// The item with what stands behind its name, from a place on.
+fn item_behind(l: &[u8], at: usize, item: usize) -> Item {
+    let form = form_of(item);
+    let a = read_argument(l, at, form.0);
+    let b = read_argument(l, a.end, form.1);
+    let c = read_argument(l, b.end, form.2);
+    let d = read_argument(l, c.end, form.3);
+    let e = read_argument(l, d.end, Form::NO_MORE);
+    let rest = misfit(form.3, d.argument, misfit(Form::NO_MORE, e.argument, 0));
+    let behind = misfit(
+        form.0,
+        a.argument,
+        misfit(form.1, b.argument, misfit(form.2, c.argument, rest)),
+    );
+    let wrong = search::row(Item::UNKNOWN, item == ITEMS, behind);
+    if wrong != 0 {
+        return Item::Wrong(wrong);
+    }
+    said_by(
+        item,
+        a.argument.value,
+        b.argument.value,
+        c.argument.value,
+        d.argument.value,
+    )
+}
+
+// The item of what is said on a line.
+fn item_in(l: &[u8]) -> Item {
+    let from = blanks_end(l, 0);
+    let to = word_end(l, from);
+    if from == to {
+        return Item::Blank;
+    }
+    item_behind(l, to, item_named(&l[from..to]))
+}
+
+// Reads a line, whatever its bytes.
+pub fn read_line(line: &[u8]) -> Item
+    ensures { λ r. ⌜ r ≡ itemOf (now (line .entry)) ⌝ }
+{
+    let end = said_end(line);
+    item_in(&line[..end])
+}
