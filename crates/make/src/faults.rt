@@ -1,5 +1,6 @@
 // What is said of a scenario that is not made, on standard error.
 use libc::STDERR_FILENO;
+use scenario::Form;
 use scenario::Item;
 ghost use Prim.Native.Nat.{_≤_};
 ghost use lib.ListN.{length};
@@ -12,12 +13,12 @@ fn say(text: &[u8]) {
 fn say_reason(reason: u8) {
     match reason {
         Item::UNKNOWN => say(b"unknown item"),
-        Item::WORD_TOO_MANY => say(b"a word too many"),
-        Item::NO_BYTE => say(b"a number from 0 to 255 is expected"),
-        Item::NO_PERIOD => say(b"a number from 0 to 65535 is expected"),
-        Item::NO_CLOCK => say(b"a number from 0 to 4294967295 is expected"),
-        Item::NO_TICK => say(b"a tick is expected, as @20: from 0 to 65535"),
-        Item::NO_KIND => say(b"short or long is expected"),
+        Form::NO_MORE => say(b"a word too many"),
+        Form::BYTE => say(b"a number from 0 to 255 is expected"),
+        Form::PERIOD => say(b"a number from 0 to 65535 is expected"),
+        Form::CLOCK => say(b"a number from 0 to 4294967295 is expected"),
+        Form::TICK => say(b"a tick is expected, as @20: from 0 to 65535"),
+        Form::KIND => say(b"short or long is expected"),
         Item::LATE => say(b"it must stand before the first event"),
         Item::TWICE => say(b"it stands twice"),
         Item::FULL => say(b"there is no room for more: 32 tasks, 32 resources, 64 pairs"),

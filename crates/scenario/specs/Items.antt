@@ -1,7 +1,7 @@
 -- The grammar of a scenario: the items, and the one that a line is.
-use Prim.Native.Nat.{ℕ, suc, _+_}
+use Prim.Native.Nat.{ℕ}
 use Prim.Native.String.{String}
-use mathlib.Core.Bool.{true, false, not}
+use mathlib.Core.Bool.{true, false, not, _||_}
 use mathlib.Core.List.{List, [], _∷_}
 use lib.ListN.{length, getD, drop}
 use Rattle.search.specs.Words.{if_then_else_, _is_}
@@ -11,33 +11,42 @@ use Rattle.search.specs.Texts.{codes, valueBehind}
 use Rattle.input.specs.Limits.{short, long}
 use Rattle.input.specs.Layout.{byte}
 use Rattle.input.specs.Kinds.{arrival, finish, request, completion, passing}
-use Rattle.scenario.specs.Words.{atSign, said, word, areSame, isNumber}
+use Rattle.scenario.specs.Words.{atSign, said, firstWord, behind, word, areSame, isNumber}
 use Rattle.scenario.specs.declared.Argument.{Argument}
 use Rattle.scenario.specs.declared.Item.{Item}
 use Rattle.scenario.specs.declared.Item.the-variants.{Blank, Processors, Start, Task, Resource, Pair, Happens, Block, Wrong}
 
--- ---- the sorts of word behind an item's name: no word more, a number, a tick, a kind of resource
+-- ---- what is wrong with a line whose first word is no item's name
+abbrev pub unknown : ℕ
+unknown = 1
+
+-- ---- the sorts of word behind an item's name: no word more, a number, a tick, a kind of resource. The number of a sort is
+-- also the reason of a line where a word is not of it
 abbrev pub noMore : ℕ
-noMore = 0
+noMore = 2
 
 abbrev pub aByte : ℕ
-aByte = 1
+aByte = 3
 
 abbrev pub aPeriod : ℕ
-aPeriod = 2
+aPeriod = 4
 
 abbrev pub aClock : ℕ
-aClock = 3
+aClock = 5
 
 abbrev pub aTick : ℕ
-aTick = 4
+aTick = 6
 
 abbrev pub aKind : ℕ
-aKind = 5
+aKind = 7
 
 -- the largest value of each
 unfoldable pub mostOf : ℕ → ℕ
-mostOf sort = getD (0 ∷ 255 ∷ 65535 ∷ 4294967295 ∷ 65535 ∷ long ∷ []) sort 0
+mostOf sort =
+    if sort is aByte then 255 else
+    if sort is aPeriod || sort is aTick then 65535 else
+    if sort is aClock then 4294967295 else
+    if sort is aKind then long else 0
 
 -- a word as one of a sort: whether it is one, and its value
 abbrev pub one : ℕ → Argument
@@ -93,14 +102,7 @@ items =
 abbrev pub itemCount : ℕ
 itemCount = 12
 
--- ---- what is wrong with a line: its first word is no item's name, or one behind it is not of its sort
-abbrev pub unknown : ℕ
-unknown = 1
-
--- a reason for each sort
-abbrev pub unexpected : ℕ → ℕ
-unexpected sort = 2 + sort
-
+-- ---- the item that a line is
 abbrev pub noEntry : Entry
 noEntry = entry "" [] (λ v. Wrong unknown)
 
@@ -115,25 +117,25 @@ itemNamed w = first (λ i. areSame w (entryAt i .name)) 0 itemCount
 unfoldable pub sortAt : ℕ → ℕ → ℕ
 sortAt i k = getD (entryAt i .sorts) k noMore
 
--- the word there, and the row for one that is not of its sort
-abbrev pub argumentAt : ℕ → List ℕ → ℕ → Argument
-argumentAt i l k = argumentOf (sortAt i k) (word (suc k) l)
+module _ (i : ℕ) (rest : List ℕ) where
+  -- the word there, of what stands behind the name; and the row for one that is not of its sort
+  abbrev pub argumentAt : ℕ → Argument
+  argumentAt k = argumentOf (sortAt i k) (word k rest)
 
-abbrev pub misfit : ℕ → List ℕ → ℕ → Row
-misfit i l k = unexpected (sortAt i k) when not (argumentAt i l k .right)
+  abbrev pub misfit : ℕ → Row
+  misfit k = sortAt i k when not (argumentAt k .right)
 
-unfoldable pub wrongRows : ℕ → List ℕ → List Row
-wrongRows i l =
-    unknown when i is itemCount otherwise
-    misfit i l 0 otherwise misfit i l 1 otherwise misfit i l 2 otherwise misfit i l 3 otherwise misfit i l 4 otherwise
-    []
+  unfoldable pub wrongRows : List Row
+  wrongRows =
+      unknown when i is itemCount otherwise
+      misfit 0 otherwise misfit 1 otherwise misfit 2 otherwise misfit 3 otherwise misfit 4 otherwise
+      []
 
--- ---- the item that a line is
-unfoldable pub itemOf : List ℕ → Item
-itemOf line =
-    let l = said line in
-    let i = itemNamed (word 0 l) in
-    let wrong = firstOf (wrongRows i l) in
-    if length (word 0 l) is 0 then Blank else
-    if wrong is 0 then entryAt i .says (λ k. argumentAt i l k .value) else
-    Wrong wrong
+  unfoldable pub itemBehind : Item
+  itemBehind = if firstOf wrongRows is 0 then entryAt i .says (λ k. argumentAt k .value) else Wrong (firstOf wrongRows)
+
+unfoldable pub itemIn : List ℕ → Item
+itemIn l = if length (firstWord l) is 0 then Blank else itemBehind (itemNamed (firstWord l)) (behind l)
+
+abbrev pub itemOf : List ℕ → Item
+itemOf line = itemIn (said line)

@@ -9,10 +9,12 @@ use crate::reading::said_end;
 use crate::reading::word_end;
 use input::Event;
 ghost use mathlib.Core.Path.{_≡_};
-ghost use Prim.Native.Nat.{_+_, _≤_, _<_};
+ghost use Prim.Native.Nat.{_≤_, _<_};
+ghost use mathlib.Core.Bool.{not};
 ghost use lib.ListN.{length, drop};
-ghost use Rattle.scenario.specs.Items.{aKind, itemCount, itemNamed, sortAt, itemOf};
-ghost use Rattle.scenario.specs.Reads.{IsForm};
+ghost use Rattle.search.specs.Words.{if_then_else_};
+ghost use Rattle.scenario.specs.Items.{itemCount, itemNamed, itemBehind, itemIn, itemOf};
+ghost use Rattle.scenario.specs.Reads.{formOf, Fit, Says};
 ghost use Rattle.scenario.specs.Items as spec;
 
 // The items' names, by number, and how many there are.
@@ -78,7 +80,7 @@ const FORMS: [Form; ITEMS] = [
 ];
 
 fn form_of(item: usize) -> Form
-    ensures { λ r. ⌜ IsForm item r ⌝ }
+    ensures { λ r. ⌜ r ≡ formOf item ⌝ }
 {
     if item < ITEMS { FORMS[item] } else { NOTHING }
 }
@@ -102,7 +104,9 @@ fn item_named(word: &[u8]) -> usize
 }
 
 // ---- what an item says, with the values behind its name
-fn event(kind: u8, task: u8, resource: u8, tick: u16) -> Item {
+fn event(kind: u8, task: u8, resource: u8, tick: u16) -> Item
+    ensures { λ r. ⌜ r ≡ spec.event kind task resource tick ⌝ }
+{
     Item::Happens(Event {
         kind,
         task,
@@ -111,7 +115,10 @@ fn event(kind: u8, task: u8, resource: u8, tick: u16) -> Item {
     })
 }
 
-fn event_of(item: usize, a: u32, b: u32, c: u32, d: u32) -> Item {
+fn event_said(item: usize, a: u32, b: u32, c: u32, d: u32) -> Item
+    requires { ⌜ (5 ≤ item) × (item ≤ 10) × Fit item a b c d ⌝ }
+    ensures { λ r. ⌜ Says item a b c d r ⌝ }
+{
     if item == ARRIVE {
         return event(Event::ARRIVAL, a as u8, 0, b as u16);
     }
@@ -130,7 +137,10 @@ fn event_of(item: usize, a: u32, b: u32, c: u32, d: u32) -> Item {
     event(a as u8, b as u8, c as u8, d as u16)
 }
 
-fn said_by(item: usize, a: u32, b: u32, c: u32, d: u32) -> Item {
+fn said(item: usize, a: u32, b: u32, c: u32, d: u32) -> Item
+    requires { ⌜ (item < itemCount) × Fit item a b c d ⌝ }
+    ensures { λ r. ⌜ Says item a b c d r ⌝ }
+{
     if item == PROCESSORS {
         return Item::Processors(a);
     }
@@ -149,41 +159,38 @@ fn said_by(item: usize, a: u32, b: u32, c: u32, d: u32) -> Item {
     if item == BLOCK {
         return Item::Block;
     }
-    event_of(item, a, b, c, d)
+    event_said(item, a, b, c, d)
 }
 
-// What is wrong with a word that is not of its sort.
-fn unexpected(sort: u8) -> u8
-    requires { ⌜ sort ≤ aKind ⌝ }
-    ensures { λ r. ⌜ r ≡ spec.unexpected sort ⌝ }
+// One row for a word that may not be of its sort.
+fn misfit(sort: u8, argument: Argument, later: u8) -> u8
+    ensures { λ r. ⌜ r ≡ (if not (argument .right) then sort else later) ⌝ }
 {
-    Item::WORD_TOO_MANY + sort
-}
-
-// One row for a word behind a name.
-fn misfit(sort: u8, argument: Argument, later: u8) -> u8 {
-    search::row(unexpected(sort), !argument.right, later)
+    search::row(sort, !argument.right, later)
 }
 
 // The item with what stands behind its name, from a place on.
-fn item_behind(l: &[u8], at: usize, item: usize) -> Item {
+fn item_behind(l: &[u8], at: usize, item: usize) -> Item
+    requires { ⌜ at ≤ length (now l) ⌝ }
+    ensures { λ r. ⌜ r ≡ itemBehind item (drop at (now (l .entry))) ⌝ }
+{
     let form = form_of(item);
     let a = read_argument(l, at, form.0);
     let b = read_argument(l, a.end, form.1);
     let c = read_argument(l, b.end, form.2);
     let d = read_argument(l, c.end, form.3);
     let e = read_argument(l, d.end, Form::NO_MORE);
-    let rest = misfit(form.3, d.argument, misfit(Form::NO_MORE, e.argument, 0));
-    let behind = misfit(
+    let last = misfit(form.3, d.argument, misfit(Form::NO_MORE, e.argument, 0));
+    let first = misfit(
         form.0,
         a.argument,
-        misfit(form.1, b.argument, misfit(form.2, c.argument, rest)),
+        misfit(form.1, b.argument, misfit(form.2, c.argument, last)),
     );
-    let wrong = search::row(Item::UNKNOWN, item == ITEMS, behind);
+    let wrong = search::row(Item::UNKNOWN, item == ITEMS, first);
     if wrong != 0 {
         return Item::Wrong(wrong);
     }
-    said_by(
+    said(
         item,
         a.argument.value,
         b.argument.value,
@@ -193,7 +200,9 @@ fn item_behind(l: &[u8], at: usize, item: usize) -> Item {
 }
 
 // The item of what is said on a line.
-fn item_in(l: &[u8]) -> Item {
+fn item_in(l: &[u8]) -> Item
+    ensures { λ r. ⌜ r ≡ itemIn (now (l .entry)) ⌝ }
+{
     let from = blanks_end(l, 0);
     let to = word_end(l, from);
     if from == to {

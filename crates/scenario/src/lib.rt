@@ -24,22 +24,10 @@ pub enum Item {
     Wrong(u8),
 }
 
-// What may be wrong with a line.
+// What may be wrong with a line, besides the sorts of `Form`.
 impl Item {
     // Its first word is no item's name.
     pub const UNKNOWN: u8 = 1;
-    // A word behind it is not what is expected there, one for each sort of word.
-    pub const WORD_TOO_MANY: u8 = 2;
-
-    pub const NO_BYTE: u8 = 3;
-
-    pub const NO_PERIOD: u8 = 4;
-
-    pub const NO_CLOCK: u8 = 5;
-
-    pub const NO_TICK: u8 = 6;
-
-    pub const NO_KIND: u8 = 7;
     // It stands behind the set-up's end, it stands twice, its table is full, or the processors are not given.
     pub const LATE: u8 = 8;
 
@@ -50,19 +38,20 @@ impl Item {
     pub const MISSING: u8 = 11;
 }
 
-// The sorts of word behind an item's name: no word more, a number, a tick, a kind of resource.
+// The sorts of word behind an item's name: no word more, a number, a tick, a kind of resource. The number of a sort is
+// also the reason of a line where a word is not of it.
 impl Form {
-    pub const NO_MORE: u8 = 0;
+    pub const NO_MORE: u8 = 2;
 
-    pub const BYTE: u8 = 1;
+    pub const BYTE: u8 = 3;
 
-    pub const PERIOD: u8 = 2;
+    pub const PERIOD: u8 = 4;
 
-    pub const CLOCK: u8 = 3;
+    pub const CLOCK: u8 = 5;
 
-    pub const TICK: u8 = 4;
+    pub const TICK: u8 = 6;
 
-    pub const KIND: u8 = 5;
+    pub const KIND: u8 = 7;
 }
 
 // The sorts of the words behind an item's name.

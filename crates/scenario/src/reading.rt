@@ -94,13 +94,22 @@ const NOT_ONE: Argument = Argument {
 };
 
 // The largest value of each sort.
-const MOST: [u32; 6] = [0, 255, 65535, 4294967295, 65535, 1];
-
 fn most_of(sort: u8) -> u32
     ensures { λ r. ⌜ r ≡ mostOf sort ⌝ }
 {
-    let i = sort as usize;
-    if i < 6 { MOST[i] } else { 0 }
+    if sort == Form::BYTE {
+        return 255;
+    }
+    if (sort == Form::PERIOD) | (sort == Form::TICK) {
+        return 65535;
+    }
+    if sort == Form::CLOCK {
+        return 4294967295;
+    }
+    if sort == Form::KIND {
+        return SetUp::LONG as u32;
+    }
+    0
 }
 
 // A number up to a limit, in decimal digits. Past the limit no digit brings it back, so the rest is not read.
