@@ -26,13 +26,14 @@ hash = 35
 abbrev pub atSign : ℕ
 atSign = 64
 
--- a line without a carriage return at its end
-unfoldable pub unended : List ℕ → List ℕ
-unended line = if byte line (length line - 1) is carriageReturn then take (length line - 1) line else line
+-- a line without a carriage return at its end, by its length, and without its remark
+unfoldable pub unendedLength : List ℕ → ℕ
+unendedLength line = if byte line (length line - 1) is carriageReturn then length line - 1 else length line
 
--- and without its remark
 unfoldable pub said : List ℕ → List ℕ
-said line = take (indexOf hash (unended line)) (unended line)
+said line =
+    let unended = take (unendedLength line) line in
+    take (indexOf hash unended) unended
 
 abbrev pub isBlank : ℕ → Bool
 isBlank c = c is space || c is tab
@@ -68,9 +69,12 @@ areSame [] (d ∷ m) = false
 areSame (c ∷ l) [] = false
 areSame (c ∷ l) (d ∷ m) = c is d && areSame l m
 
+abbrev pub isDigit : ℕ → Bool
+isDigit c = within 48 c 57
+
 unfoldable pub areDigits : List ℕ → Bool
 areDigits [] = true
-areDigits (c ∷ l) = within 48 c 57 && areDigits l
+areDigits (c ∷ l) = isDigit c && areDigits l
 
 -- decimal digits, of a number up to a limit
 unfoldable pub isNumber : ℕ → List ℕ → Bool

@@ -5,7 +5,7 @@ use crate::Item;
 use crate::reading::blanks_end;
 use crate::reading::is_word;
 use crate::reading::read_argument;
-use crate::reading::said_end;
+use crate::reading::said_length;
 use crate::reading::word_end;
 use input::Event;
 ghost use mathlib.Core.Path.{_≡_};
@@ -215,6 +215,6 @@ fn item_in(l: &[u8]) -> Item
 pub fn read_line(line: &[u8]) -> Item
     ensures { λ r. ⌜ r ≡ itemOf (now (line .entry)) ⌝ }
 {
-    let end = said_end(line);
-    item_in(&line[..end])
+    let len = said_length(line);
+    item_in(&line[..len])
 }

@@ -4,9 +4,9 @@ use crate::Form;
 use crate::Read;
 use input::SetUp;
 ghost use mathlib.Core.Path.{_≡_};
-ghost use Prim.Native.Nat.{_+_, _≤_};
+ghost use Prim.Native.Nat.{_+_, _-_, _≤_, _<_};
 ghost use lib.ListN.{length, take, drop};
-ghost use Rattle.scenario.specs.Words.{said, blanks, letters, areSame, isBlank};
+ghost use Rattle.scenario.specs.Words.{unendedLength, said, blanks, letters, areSame, isBlank, isDigit};
 ghost use Rattle.scenario.specs.Items.{mostOf, numberIn, tickIn, kindIn, argumentOf};
 ghost use Rattle.scenario.specs.Items as spec;
 ghost use Rattle.scenario.specs.Reads.{IsRead};
@@ -21,20 +21,26 @@ const HASH: u8 = 35;
 
 const AT_SIGN: u8 = 64;
 
-// How much of a line is read: all before a remark, and before a carriage return at its end.
-pub fn said_end(line: &[u8]) -> usize
-    ensures { λ r. ⌜ (take r (now (line .entry)) ≡ said (now (line .entry))) × (r ≤ length (now (line .entry))) ⌝ }
+// The length of a line without a carriage return at its end.
+fn unended_length(line: &[u8]) -> usize
+    ensures { λ r. ⌜ (r ≡ unendedLength (now (line .entry))) × (r ≤ length (now (line .entry))) ⌝ }
 {
     let len = line.len();
     if len == 0 {
         return 0;
     }
-    let end = if line[len - 1] == CARRIAGE_RETURN {
-        len - 1
-    } else {
-        len
-    };
-    bytes::scan::find(line, 0, end, HASH)
+    if line[len - 1] == CARRIAGE_RETURN {
+        return len - 1;
+    }
+    len
+}
+
+// How much of a line is read: all before its remark.
+pub fn said_length(line: &[u8]) -> usize
+    ensures { λ r. ⌜ (take r (now (line .entry)) ≡ said (now (line .entry))) × (r ≤ length (now (line .entry))) ⌝ }
+{
+    let len = unended_length(line);
+    bytes::scan::find(line, 0, len, HASH)
 }
 
 fn is_blank(c: u8) -> bool
@@ -93,6 +99,18 @@ const NOT_ONE: Argument = Argument {
     value: 0,
 };
 
+fn is_digit(c: u8) -> bool
+    ensures { λ r. ⌜ r ≡ isDigit c ⌝ }
+{
+    (b'0' <= c) & (c <= b'9')
+}
+
+fn digit_value(c: u8) -> u64
+    ensures { λ r. ⌜ (r ≡ c - 48) × (r < 256) ⌝ }
+{
+    if c < b'0' { 0 } else { (c - b'0') as u64 }
+}
+
 // The largest value of each sort.
 fn most_of(sort: u8) -> u32
     ensures { λ r. ⌜ r ≡ mostOf sort ⌝ }
@@ -123,10 +141,10 @@ fn number_in(word: &[u8], most: u32) -> Argument
     let mut i = 0;
     while i < word.len() {
         let c = word[i];
-        if c < b'0' || b'9' < c {
+        if !is_digit(c) {
             return NOT_ONE;
         }
-        value = 10 * value + (c - b'0') as u64;
+        value = 10 * value + digit_value(c);
         if (most as u64) < value {
             return NOT_ONE;
         }

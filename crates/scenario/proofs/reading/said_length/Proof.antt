@@ -1,0 +1,26 @@
+use borrow.Author.Needs.{needs}
+use native.Mathlib.Omega.{arith}
+use Rattle.bytes.specs.Bytes.{slice}
+use Rattle.scenario.specs.Words.{said, unendedLength}
+use Rattle.scenario.proofs.reading.said_length.Statement.{statement}
+use Rattle.scenario.proofs.reading.said_length.Tie as tie
+use Rattle.scenario.proofs.reading.said_length.Reads as reads
+use Rattle.scenario.proofs.reading.said_length.Lts as lts
+use Rattle.bytes.proofs.scan.find.Reads as find-reads
+use Rattle.scenario.proofs.reading.unended_length.Reads as unended-length-reads
+
+-- src/reading.rt:42:9
+unended-length-requires : tie.Need-unended-length-requires
+unended-length-requires c κs = search needs
+
+-- src/reading.rt:43:5
+find-requires : tie.Need-find-requires
+find-requires c κs = search needs
+
+-- src/reading.rt:39:1
+returns : tie.Need-returns
+unfolding said slice
+returns c = ?
+
+pub said-length-spec : {M : Type 1} → statement M
+said-length-spec = tie.close (tie.spec unended-length-requires find-requires returns)
