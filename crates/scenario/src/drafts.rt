@@ -186,14 +186,17 @@ fn end_set_up(draft: Draft, events: Events, out: &mut [u8]) -> Taken
     answered(draft, filling(draft, 1, events), number)
 }
 
-// A block of events ends, and the next one begins with these. A block that is written has an index that another can follow.
+// A block of events ends, and the next one begins with these.
 fn end_block(draft: Draft, events: Events, out: &mut [u8]) -> Taken
     ensures { λ r. ⌜ (r, now (out .exit)) ≡ blockEnds draft events (now (out .entry)) ⌝ }
 {
     let index = draft.index;
     let number = writer::write_events(draft.events, index, out);
-    let following = std::num::wrapping_add_u64(index, 1);
-    answered(draft, filling(draft, following, events), number)
+    if number != 0 {
+        return answered(draft, draft, number);
+    }
+    // A block that is written has an index that another can follow.
+    answered(draft, filling(draft, index + 1, events), number)
 }
 
 fn take_event(draft: Draft, e: Event, out: &mut [u8]) -> Taken
