@@ -179,11 +179,11 @@ fn answered(draft: Draft, next: Draft, number: u8) -> Taken
 fn end_set_up(draft: Draft, events: Events, out: &mut [u8]) -> Taken
     ensures { λ r. ⌜ (r, now (out .exit)) ≡ setUpEnds draft events (now (out .entry)) ⌝ }
 {
-    if !draft.sized {
-        return faulty(draft, Item::MISSING);
+    if draft.sized {
+        let number = writer::write_set_up(draft.setup, out);
+        return answered(draft, filling(draft, 1, events), number);
     }
-    let number = writer::write_set_up(draft.setup, out);
-    answered(draft, filling(draft, 1, events), number)
+    faulty(draft, Item::MISSING)
 }
 
 // A block of events ends, and the next one begins with these.

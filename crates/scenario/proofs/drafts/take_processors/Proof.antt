@@ -27,7 +27,7 @@ faulty-requires-2 c κs = search needs
 -- src/drafts.rt:100:9
 returns-2 : tie.Need-returns-2
 unfolding settled
-returns-2 c = rw (eq-eqb _ _ ((c .before .before .if1) .left), (c .before .if2) .taken, (c .faulty2) .ensures)
+returns-2 c = rw ((c .faulty2) .ensures, eq-eqb _ _ ((c .before .before .if1) .left), (c .before .if2) .taken)
 
 -- src/drafts.rt:102:39
 with-processors-requires : tie.Need-with-processors-requires
