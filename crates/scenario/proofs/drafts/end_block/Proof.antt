@@ -41,7 +41,7 @@ add-filling c =
     let s = (c .before .before .before .before .before .before .args) in
     let rows = eventRows (s .draft .events) (s .draft .index) in
     let free : firstOf (lentRows (s .out .now) rows) ≡ 0 = sym (ap (λ p. p .0) ((c .before .before .before .write-events) .ensures)) ∙ (c .if1) .left in
-    omega (arith, events-free _ _ (lent-free _ _ free .1) .inside)
+    omega (arith, events-free (s .draft .events) (s .draft .index) (lent-free (s .out .now) rows free .1) .inside)
 
 -- src/drafts.rt:199:21
 filling-requires : tie.Need-filling-requires
