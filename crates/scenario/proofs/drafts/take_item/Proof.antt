@@ -95,27 +95,27 @@ returns c = rw ((c .before .enum-told) .given .1, (c .kept) .ensures)
 -- src/drafts.rt:229:1
 returns-2 : tie.Need-returns-2
 unfolding taken
-returns-2 c = rw ((c .before .known-told) .given .1, (c .take-processors) .ensures)
+returns-2 c = rw ((c .before .before .item) .given .1, (c .take-processors) .ensures)
 
 -- src/drafts.rt:229:1
 returns-3 : tie.Need-returns-3
 unfolding taken
-returns-3 c = rw ((c .before .known-told2) .given .1, (c .take-start) .ensures)
+returns-3 c = rw ((c .before .before .item2) .given .1, (c .take-start) .ensures)
 
 -- src/drafts.rt:229:1
 returns-4 : tie.Need-returns-4
 unfolding taken
-returns-4 c = rw ((c .before .known-told3) .given .1, (c .take-task) .ensures)
+returns-4 c = rw ((c .before .before .item3) .given .1, (c .take-task) .ensures)
 
 -- src/drafts.rt:229:1
 returns-5 : tie.Need-returns-5
 unfolding taken
-returns-5 c = rw ((c .before .known-told4) .given .1, (c .take-resource) .ensures)
+returns-5 c = rw ((c .before .before .item4) .given .1, (c .take-resource) .ensures)
 
 -- src/drafts.rt:229:1
 returns-6 : tie.Need-returns-6
 unfolding taken
-returns-6 c = rw ((c .before .known-told5) .given .1, (c .take-pair) .ensures)
+returns-6 c = rw ((c .before .before .item5) .given .1, (c .take-pair) .ensures)
 
 -- src/drafts.rt:229:1
 same-length : tie.Need-same-length
@@ -124,7 +124,7 @@ same-length c = search needs
 -- src/drafts.rt:229:1
 returns-7 : tie.Need-returns-7
 unfolding taken
-returns-7 c = rw ((c .before .before .before .before .known-told6) .given .1, (c .before .before .take-event) .ensures)
+returns-7 c = rw ((c .before .before .before .before .before .item6) .given .1, (c .before .before .take-event) .ensures)
 
 -- src/drafts.rt:229:1
 same-length-2 : tie.Need-same-length-2
@@ -138,7 +138,7 @@ returns-8 c = rw ((c .before .before .before .before .enum-told2) .given .1, (c 
 -- src/drafts.rt:229:1
 returns-9 : tie.Need-returns-9
 unfolding taken
-returns-9 c = rw ((c .before .known-told7) .given .1, (c .faulty) .ensures)
+returns-9 c = rw ((c .before .before .item7) .given .1, (c .faulty) .ensures)
 
 pub take-item-spec : {M : Type 1} → statement M
 take-item-spec =
