@@ -119,7 +119,8 @@ fn take_start(draft: Draft, start: u32) -> Taken
 }
 
 fn take_task(draft: Draft, period: u16) -> Taken
-    ensures { λ r. ⌜ r ≡ settled draft full (leb mostTasks (draft .setup .tasks)) (withSetUp draft (withTask period (draft .setup))) ⌝ }
+    ensures { λ r. ⌜ r ≡ settled draft full (leb mostTasks (draft .setup .tasks))
+        (withSetUp draft (withTask period (draft .setup))) ⌝ }
 {
     let setup = draft.setup;
     if draft.index != 0 {
@@ -132,7 +133,8 @@ fn take_task(draft: Draft, period: u16) -> Taken
 }
 
 fn take_resource(draft: Draft, kind: u8) -> Taken
-    ensures { λ r. ⌜ r ≡ settled draft full (leb mostResources (draft .setup .resources)) (withSetUp draft (withResource kind (draft .setup))) ⌝ }
+    ensures { λ r. ⌜ r ≡ settled draft full (leb mostResources (draft .setup .resources))
+        (withSetUp draft (withResource kind (draft .setup))) ⌝ }
 {
     let setup = draft.setup;
     if draft.index != 0 {
@@ -145,7 +147,8 @@ fn take_resource(draft: Draft, kind: u8) -> Taken
 }
 
 fn take_pair(draft: Draft, outer: u8, inner: u8) -> Taken
-    ensures { λ r. ⌜ r ≡ settled draft full (leb mostPairs (draft .setup .pairs)) (withSetUp draft (withPair outer inner (draft .setup))) ⌝ }
+    ensures { λ r. ⌜ r ≡ settled draft full (leb mostPairs (draft .setup .pairs))
+        (withSetUp draft (withPair outer inner (draft .setup))) ⌝ }
 {
     let setup = draft.setup;
     if draft.index != 0 {

@@ -11,54 +11,52 @@ use Rattle.writer.proofs.Answers.{lent-free, events-free}
 use Rattle.scenario.specs.Drafts.{answered, blockEnds}
 use Rattle.scenario.proofs.drafts.end_block.Statement.{statement}
 use Rattle.scenario.proofs.drafts.end_block.Tie as tie
-use Rattle.scenario.proofs.drafts.end_block.Reads as reads
-use Rattle.scenario.proofs.drafts.end_block.Lts as lts
-use Rattle.scenario.proofs.drafts.answered.Reads as answered-reads
-use Rattle.scenario.proofs.drafts.filling.Reads as filling-reads
-use Rattle.writer.proofs.write_events.Reads as write-events-reads
 
--- src/drafts.rt:194:9
 write-events-requires : tie.Need-write-events-requires
 write-events-requires c κs = search needs
 
--- src/drafts.rt:196:9
 answered-requires : tie.Need-answered-requires
 answered-requires c κs = search needs
 
--- src/drafts.rt:196:9
 same-length : tie.Need-same-length
 same-length c = search needs
 
--- src/drafts.rt:196:9
 returns : tie.Need-returns
 unfolding blockEnds answered
-returns c = rw ((c .answered) .ensures, ← ((c .before .before .before .before .write-events) .ensures), ne-eqb _ _ ((c .before .if1) .taken))
+returns c =
+    rw (
+      c .answered .ensures,
+      ← (c .before .before .before .before .write-events .ensures),
+      ne-eqb _ _ (c .before .if1 .taken),
+    )
 
--- src/drafts.rt:199:36
 add-filling : tie.Need-add-filling
 unfolding eventsWritten
-add-filling c = 
-    let s = (c .before .before .before .before .before .before .args) in
+add-filling c =
+    let s = c .before .before .before .before .before .before .args in
     let rows = eventRows (s .draft .events) (s .draft .index) in
-    let free : firstOf (lentRows (s .out .now) rows) ≡ 0 = sym (ap (λ p. p .0) ((c .before .before .before .write-events) .ensures)) ∙ (c .if1) .left in
+    let answer = ap (λ p. p .0) (c .before .before .before .write-events .ensures) in
+    let free : firstOf (lentRows (s .out .now) rows) ≡ 0 = sym answer ∙ c .if1 .left in
     omega (arith, events-free (s .draft .events) (s .draft .index) (lent-free (s .out .now) rows free .1) .inside)
 
--- src/drafts.rt:199:21
 filling-requires : tie.Need-filling-requires
 filling-requires c κs = search needs
 
--- src/drafts.rt:199:5
 answered-requires-2 : tie.Need-answered-requires-2
 answered-requires-2 c κs = search needs
 
--- src/drafts.rt:190:1
 same-length-2 : tie.Need-same-length-2
 same-length-2 c = search needs
 
--- src/drafts.rt:190:1
 returns-2 : tie.Need-returns-2
 unfolding blockEnds
-returns-2 c = rw ((c .answered2) .ensures, (c .before .filling) .ensures, add-one, ← ((c .before .before .before .before .before .write-events) .ensures))
+returns-2 c =
+    rw (
+      c .answered2 .ensures,
+      c .before .filling .ensures,
+      add-one,
+      ← (c .before .before .before .before .before .write-events .ensures),
+    )
 
 pub end-block-spec : {M : Type 1} → statement M
 end-block-spec =

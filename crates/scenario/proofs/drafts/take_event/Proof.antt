@@ -4,75 +4,71 @@ use borrow.Author.Tests.{eq-eqb, ne-eqb, le-leb, lt-leb}
 use Rattle.scenario.specs.Drafts.{eventTaken}
 use Rattle.scenario.proofs.drafts.take_event.Statement.{statement}
 use Rattle.scenario.proofs.drafts.take_event.Tie as tie
-use Rattle.scenario.proofs.drafts.take_event.Reads as reads
-use Rattle.scenario.proofs.drafts.take_event.Lts as lts
-use Rattle.scenario.proofs.drafts.end_block.Reads as end-block-reads
-use Rattle.scenario.proofs.drafts.end_set_up.Reads as end-set-up-reads
-use Rattle.scenario.proofs.drafts.filling.Reads as filling-reads
-use Rattle.scenario.proofs.drafts.kept.Reads as kept-reads
-use Rattle.scenario.proofs.drafts.no_events.Reads as no-events-reads
-use Rattle.scenario.proofs.drafts.with_event.Reads as with-event-reads
 
--- src/drafts.rt:207:45
 no-events-requires : tie.Need-no-events-requires
 no-events-requires c κs = search needs
 
--- src/drafts.rt:207:34
 with-event-requires : tie.Need-with-event-requires
-unfolding eventTaken
-with-event-requires c κs = rw ((c .no-events) .ensures) (search needs)
+with-event-requires c κs = rw (c .no-events .ensures) (search needs)
 
--- src/drafts.rt:207:9
 end-set-up-requires : tie.Need-end-set-up-requires
 end-set-up-requires c κs = search needs
 
--- src/drafts.rt:207:9
 same-length : tie.Need-same-length
 same-length c = search needs
 
--- src/drafts.rt:207:9
 returns : tie.Need-returns
 unfolding eventTaken
-returns c = rw (eq-eqb _ _ ((c .before .before .before .before .before .before .if1) .taken), (c .before .before .end-set-up) .ensures, (c .before .before .before .before .with-event) .ensures, (c .before .before .before .before .before .no-events) .ensures)
+returns c =
+    rw (
+      eq-eqb _ _ (c .before .before .before .before .before .before .if1 .taken),
+      c .before .before .end-set-up .ensures,
+      c .before .before .before .before .with-event .ensures,
+      c .before .before .before .before .before .no-events .ensures,
+    )
 
--- src/drafts.rt:210:44
 no-events-requires-2 : tie.Need-no-events-requires-2
 no-events-requires-2 c κs = search needs
 
--- src/drafts.rt:210:33
 with-event-requires-2 : tie.Need-with-event-requires-2
-unfolding eventTaken
-with-event-requires-2 c κs = rw ((c .no-events2) .ensures) (search needs)
+with-event-requires-2 c κs = rw (c .no-events2 .ensures) (search needs)
 
--- src/drafts.rt:210:9
 end-block-requires : tie.Need-end-block-requires
 end-block-requires c κs = search needs
 
--- src/drafts.rt:210:9
 same-length-2 : tie.Need-same-length-2
 same-length-2 c = search needs
 
--- src/drafts.rt:210:9
 returns-2 : tie.Need-returns-2
 unfolding eventTaken
-returns-2 c = rw (ne-eqb _ _ ((c .before .before .before .before .before .before .before .before .if1) .left), le-leb _ _ ((c .before .before .before .before .before .before .if2) .taken), (c .before .before .end-block) .ensures, (c .before .before .before .before .with-event2) .ensures, (c .before .before .before .before .before .no-events2) .ensures)
+returns-2 c =
+    rw (
+      ne-eqb _ _ (c .before .before .before .before .before .before .before .before .if1 .left),
+      le-leb _ _ (c .before .before .before .before .before .before .if2 .taken),
+      c .before .before .end-block .ensures,
+      c .before .before .before .before .with-event2 .ensures,
+      c .before .before .before .before .before .no-events2 .ensures,
+    )
 
--- src/drafts.rt:212:38
 with-event-requires-3 : tie.Need-with-event-requires-3
 with-event-requires-3 c κs = search needs
 
--- src/drafts.rt:212:10
 filling-requires : tie.Need-filling-requires
 filling-requires c κs = search needs
 
--- src/drafts.rt:212:5
 kept-requires : tie.Need-kept-requires
 kept-requires c κs = search needs
 
--- src/drafts.rt:202:1
 returns-3 : tie.Need-returns-3
 unfolding eventTaken
-returns-3 c = rw (ne-eqb _ _ ((c .before .before .before .before .before .if1) .left), lt-leb _ _ ((c .before .before .before .if2) .left), (c .kept) .ensures, (c .before .filling) .ensures, (c .before .before .with-event3) .ensures)
+returns-3 c =
+    rw (
+      ne-eqb _ _ (c .before .before .before .before .before .if1 .left),
+      lt-leb _ _ (c .before .before .before .if2 .left),
+      c .kept .ensures,
+      c .before .filling .ensures,
+      c .before .before .with-event3 .ensures,
+    )
 
 pub take-event-spec : {M : Type 1} → statement M
 take-event-spec =
