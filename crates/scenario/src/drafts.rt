@@ -119,7 +119,8 @@ fn take_start(draft: Draft, start: u32) -> Taken
 }
 
 fn take_task(draft: Draft, period: u16) -> Taken
-    ensures { λ r. ⌜ r ≡ settled draft full (leb mostTasks (draft .setup .tasks)) (withSetUp draft (withTask period (draft .setup))) ⌝ }
+    ensures { λ r. ⌜ r ≡ settled draft full (leb mostTasks (draft .setup .tasks))
+        (withSetUp draft (withTask period (draft .setup))) ⌝ }
 {
     let setup = draft.setup;
     if draft.index != 0 {
@@ -132,7 +133,8 @@ fn take_task(draft: Draft, period: u16) -> Taken
 }
 
 fn take_resource(draft: Draft, kind: u8) -> Taken
-    ensures { λ r. ⌜ r ≡ settled draft full (leb mostResources (draft .setup .resources)) (withSetUp draft (withResource kind (draft .setup))) ⌝ }
+    ensures { λ r. ⌜ r ≡ settled draft full (leb mostResources (draft .setup .resources))
+        (withSetUp draft (withResource kind (draft .setup))) ⌝ }
 {
     let setup = draft.setup;
     if draft.index != 0 {
@@ -145,7 +147,8 @@ fn take_resource(draft: Draft, kind: u8) -> Taken
 }
 
 fn take_pair(draft: Draft, outer: u8, inner: u8) -> Taken
-    ensures { λ r. ⌜ r ≡ settled draft full (leb mostPairs (draft .setup .pairs)) (withSetUp draft (withPair outer inner (draft .setup))) ⌝ }
+    ensures { λ r. ⌜ r ≡ settled draft full (leb mostPairs (draft .setup .pairs))
+        (withSetUp draft (withPair outer inner (draft .setup))) ⌝ }
 {
     let setup = draft.setup;
     if draft.index != 0 {
@@ -179,21 +182,24 @@ fn answered(draft: Draft, next: Draft, number: u8) -> Taken
 fn end_set_up(draft: Draft, events: Events, out: &mut [u8]) -> Taken
     ensures { λ r. ⌜ (r, now (out .exit)) ≡ setUpEnds draft events (now (out .entry)) ⌝ }
 {
-    if !draft.sized {
-        return faulty(draft, Item::MISSING);
+    if draft.sized {
+        let number = writer::write_set_up(draft.setup, out);
+        return answered(draft, filling(draft, 1, events), number);
     }
-    let number = writer::write_set_up(draft.setup, out);
-    answered(draft, filling(draft, 1, events), number)
+    faulty(draft, Item::MISSING)
 }
 
-// A block of events ends, and the next one begins with these. A block that is written has an index that another can follow.
+// A block of events ends, and the next one begins with these.
 fn end_block(draft: Draft, events: Events, out: &mut [u8]) -> Taken
     ensures { λ r. ⌜ (r, now (out .exit)) ≡ blockEnds draft events (now (out .entry)) ⌝ }
 {
     let index = draft.index;
     let number = writer::write_events(draft.events, index, out);
-    let following = std::num::wrapping_add_u64(index, 1);
-    answered(draft, filling(draft, following, events), number)
+    if number != 0 {
+        return answered(draft, draft, number);
+    }
+    // A block that is written has an index that another can follow.
+    answered(draft, filling(draft, index + 1, events), number)
 }
 
 fn take_event(draft: Draft, e: Event, out: &mut [u8]) -> Taken
