@@ -1,6 +1,6 @@
 use borrow.Author.Needs.{needs}
 use native.Mathlib.Omega.{arith}
-use Prim.Native.Nat.{zero, _+_, _-_, _<_, _≤_}
+use Prim.Native.Nat.{ℕ, _+_, _-_, _<_, _≤_}
 use mathlib.Core.Path.{_≡_}
 use mathlib.Core.Bool.{true, false}
 use lib.ListN.{length, getD, drop}
@@ -32,7 +32,7 @@ is-blank-requires c κs = search needs
 
 -- src/reading.rt:60:13
 returns : tie.Need-returns Inv-loop μ-loop
-returns c = let o = (c .before .before .before .before .loop) in let l = (c .before .before .before .before .before .before .args) .l .now in let h : o .i < length l = search needs in let b : zero = ((c .if1) .taken) in let e : zero = ((c .before .is-blank) .ensures) in let z = blanks-off l (o .i) h b in (omega (arith, o .inv .2, z), search needs)
+returns c = let o = (c .before .before .before .before .loop) in let l = (c .before .before .before .before .before .before .args) .l .now in let h : o .i < length l = search needs in let b : ℕ = ((c .if1) .taken) in let e : ℕ = ((c .before .is-blank) .ensures) in let z = blanks-off l (o .i) h b in (omega (arith, o .inv .2, z), search needs)
 
 -- src/reading.rt:62:9
 add-i : tie.Need-add-i Inv-loop μ-loop
