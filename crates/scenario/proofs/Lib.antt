@@ -1,1 +1,4 @@
+pub mod Filling
+pub mod Made
+pub mod Taking
 pub mod Words
