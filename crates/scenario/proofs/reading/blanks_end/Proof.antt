@@ -1,7 +1,8 @@
 use borrow.Author.Needs.{needs}
 use native.Mathlib.Omega.{arith}
-use Prim.Native.Nat.{ℕ, _+_, _-_, _<_, _≤_}
-use mathlib.Core.Path.{_≡_}
+use borrow.Author.Tests.{not-true, not-false}
+use Prim.Native.Nat.{_+_, _-_, _<_, _≤_}
+use mathlib.Core.Path.{_≡_, sym, _∙_}
 use mathlib.Core.Bool.{true, false}
 use lib.ListN.{length, getD, drop}
 use Rattle.scenario.specs.Words.{isBlank, blanks}
@@ -32,7 +33,7 @@ is-blank-requires c κs = search needs
 
 -- src/reading.rt:60:13
 returns : tie.Need-returns Inv-loop μ-loop
-returns c = let o = (c .before .before .before .before .loop) in let l = (c .before .before .before .before .before .before .args) .l .now in let h : o .i < length l = search needs in let b : ℕ = ((c .if1) .taken) in let e : ℕ = ((c .before .is-blank) .ensures) in let z = blanks-off l (o .i) h b in (omega (arith, o .inv .2, z), search needs)
+returns c = let o = (c .before .before .before .before .loop) in let l = (c .before .before .before .before .before .before .args) .l .now in let h : o .i < length l = search needs in let b : isBlank (getD l (o .i) 0) ≡ false = sym ((c .before .is-blank) .ensures) ∙ not-true _ ((c .if1) .taken) in let z = blanks-off l (o .i) h b in (omega (arith, o .inv .2, z), search needs)
 
 -- src/reading.rt:62:9
 add-i : tie.Need-add-i Inv-loop μ-loop
@@ -44,7 +45,7 @@ loop-less c = search needs
 
 -- src/reading.rt:58:5
 loop-again : tie.Need-loop-again Inv-loop μ-loop
-loop-again c = let o = (c .before .before .before .before .loop) in let l = (c .before .before .before .before .before .before .args) .l .now in let h : o .i < length l = search needs in let b : isBlank (getD l (o .i) 0) ≡ true = search needs in let z = blanks-on l (o .i) h b in (omega arith, search needs, omega (arith, o .inv .2, z))
+loop-again c = let o = (c .before .before .before .before .loop) in let l = (c .before .before .before .before .before .before .args) .l .now in let h : o .i < length l = search needs in let b : isBlank (getD l (o .i) 0) ≡ true = sym ((c .before .is-blank) .ensures) ∙ not-false _ ((c .if1) .left) in let z = blanks-on l (o .i) h b in (omega arith, search needs, omega (arith, o .inv .2, z))
 
 -- src/reading.rt:53:1
 returns-2 : tie.Need-returns-2 Inv-loop μ-loop

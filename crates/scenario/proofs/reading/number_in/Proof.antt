@@ -1,5 +1,6 @@
 use borrow.Author.Needs.{needs}
 use native.Mathlib.Omega.{arith}
+use borrow.Author.Tests.{not-true, not-false}
 use Prim.Native.Nat.{_+_, _-_, _*_, _<_, _≤_}
 use mathlib.Core.Path.{_≡_, sym, _∙_}
 use mathlib.Core.Bool.{true, false}
@@ -39,7 +40,7 @@ is-digit-requires c κs = search needs
 
 -- src/reading.rt:145:13
 returns-2 : tie.Need-returns-2 Inv-loop μ-loop
-returns-2 c = let o = (c .before .before .before .before .loop) in let w = (c .before .before .before .before .before .before .before .args) .word .now in let h : o .i < length w = search needs in let b : isDigit (getD w (o .i) 0) ≡ false = search needs in sym (number-undigit ((c .before .before .before .before .before .before .before .args) .most) w (o .inv .3 ∙ digits-off w (o .i) h b))
+returns-2 c = let o = (c .before .before .before .before .loop) in let w = (c .before .before .before .before .before .before .before .args) .word .now in let h : o .i < length w = search needs in let b : isDigit (getD w (o .i) 0) ≡ false = sym ((c .before .is-digit) .ensures) ∙ not-true _ ((c .if2) .taken) in sym (number-undigit ((c .before .before .before .before .before .before .before .args) .most) w (o .inv .3 ∙ digits-off w (o .i) h b))
 
 -- src/reading.rt:147:17
 mul-value : tie.Need-mul-value Inv-loop μ-loop
@@ -67,7 +68,7 @@ loop-less c = search needs
 
 -- src/reading.rt:142:5
 loop-again : tie.Need-loop-again Inv-loop μ-loop
-loop-again c = let o = (c .before .before .before .before .before .before .loop) in let w = (c .before .before .before .before .before .before .before .before .before .args) .word .now in let h : o .i < length w = search needs in let b : isDigit (getD w (o .i) 0) ≡ true = search needs in (search needs, o .inv .1, search needs, o .inv .3 ∙ digits-on w (o .i) h b, rw ((c .before .digit-value) .ensures .0) (o .inv .4 ∙ value-on w (o .i) h (o .value)))
+loop-again c = let o = (c .before .before .before .before .before .before .loop) in let w = (c .before .before .before .before .before .before .before .before .before .args) .word .now in let h : o .i < length w = search needs in let b : isDigit (getD w (o .i) 0) ≡ true = sym ((c .before .before .before .is-digit) .ensures) ∙ not-false _ ((c .before .before .if2) .left) in (search needs, o .inv .1, search needs, o .inv .3 ∙ digits-on w (o .i) h b, rw ((c .before .digit-value) .ensures .0) (o .inv .4 ∙ value-on w (o .i) h (o .value)))
 
 -- src/reading.rt:155:16
 cast-t15 : tie.Need-cast-t15 Inv-loop μ-loop

@@ -1,5 +1,7 @@
 use borrow.Author.Needs.{needs}
 use native.Mathlib.Omega.{arith}
+use mathlib.Core.Path.{_≡_}
+use lib.ListN.{length, List·getD-eq-default}
 use borrow.Author.Tests.{eq-eqb, ne-eqb}
 use Rattle.scenario.specs.Words.{unendedLength}
 use Rattle.scenario.proofs.reading.unended_length.Statement.{statement}
@@ -10,7 +12,7 @@ use Rattle.scenario.proofs.reading.unended_length.Lts as lts
 -- src/reading.rt:30:9
 returns : tie.Need-returns
 unfolding unendedLength
-returns c = ?
+returns c = let e : length ((c .before .args) .line .now) ≡ 0 = search needs in (rw (e, List·getD-eq-default ((c .before .args) .line .now) 0 {n = 0} (search needs)), search needs)
 
 -- src/reading.rt:32:13
 sub-if2 : tie.Need-sub-if2

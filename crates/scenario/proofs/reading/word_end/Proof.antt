@@ -1,7 +1,7 @@
 use borrow.Author.Needs.{needs}
 use native.Mathlib.Omega.{arith}
 use Prim.Native.Nat.{_+_, _-_, _<_, _≤_}
-use mathlib.Core.Path.{_≡_}
+use mathlib.Core.Path.{_≡_, sym, _∙_}
 use mathlib.Core.Bool.{true, false}
 use lib.ListN.{length, getD, drop}
 use Rattle.scenario.specs.Words.{isBlank, letters}
@@ -32,7 +32,7 @@ is-blank-requires c κs = search needs
 
 -- src/reading.rt:74:13
 returns : tie.Need-returns Inv-loop μ-loop
-returns c = let o = (c .before .before .before .before .loop) in let l = (c .before .before .before .before .before .before .args) .l .now in let h : o .i < length l = search needs in let b : isBlank (getD l (o .i) 0) ≡ true = search needs in let z = letters-off l (o .i) h b in (omega (arith, o .inv .2, z), search needs)
+returns c = let o = (c .before .before .before .before .loop) in let l = (c .before .before .before .before .before .before .args) .l .now in let h : o .i < length l = search needs in let b : isBlank (getD l (o .i) 0) ≡ true = sym ((c .before .is-blank) .ensures) ∙ ((c .if1) .taken) in let z = letters-off l (o .i) h b in (omega (arith, o .inv .2, z), search needs)
 
 -- src/reading.rt:76:9
 add-i : tie.Need-add-i Inv-loop μ-loop
@@ -44,7 +44,7 @@ loop-less c = search needs
 
 -- src/reading.rt:72:5
 loop-again : tie.Need-loop-again Inv-loop μ-loop
-loop-again c = let o = (c .before .before .before .before .loop) in let l = (c .before .before .before .before .before .before .args) .l .now in let h : o .i < length l = search needs in let b : isBlank (getD l (o .i) 0) ≡ false = search needs in let z = letters-on l (o .i) h b in (omega arith, search needs, omega (arith, o .inv .2, z))
+loop-again c = let o = (c .before .before .before .before .loop) in let l = (c .before .before .before .before .before .before .args) .l .now in let h : o .i < length l = search needs in let b : isBlank (getD l (o .i) 0) ≡ false = sym ((c .before .is-blank) .ensures) ∙ ((c .if1) .left) in let z = letters-on l (o .i) h b in (omega arith, search needs, omega (arith, o .inv .2, z))
 
 -- src/reading.rt:67:1
 returns-2 : tie.Need-returns-2 Inv-loop μ-loop
