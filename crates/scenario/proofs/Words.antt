@@ -7,8 +7,8 @@ use mathlib.Core.Logic.{_≢_}
 use native.Mathlib.Omega.{arith}
 use native.Mathlib.Numerals.{add-one}
 use lib.Dec.{leb}
-use lib.ListN.{length, getD, take, drop, drop-of-length-le}
-use lib.Seq.{drop-cons, drop-drop}
+use lib.ListN.{length, getD, take, drop, length-drop, drop-of-length-le}
+use lib.Seq.{drop-cons, drop-drop, take-all, length-take-le}
 use borrow.Author.Tests.{eq-eqb, ne-eqb, le-leb, lt-leb}
 use Rattle.search.specs.Words.{_is_, _isn't_}
 use Rattle.search.specs.Texts.{valueBehind}
@@ -105,16 +105,22 @@ module _ (most : ℕ) (w : List ℕ) where
   unfolding numberIn isNumber
   number-good d e h = rw (ne-eqb (length w) 0 d, e, le-leb (valueBehind 0 w) most h)
 
--- ---- words by places: from `at` on the first word stands from one place to another
-module _ (l : List ℕ) (at : ℕ) where
-  abbrev from : ℕ
-  from = at + blanks (drop at l)
+-- all but the first
+pub tail-all : (w : List ℕ) → take (length w - 1) (drop 1 w) ≡ drop 1 w
+tail-all w = take-all (length w - 1) (drop 1 w) (omega (arith, length-drop 1 w))
 
+-- ---- words by places: from `at` on the blanks end at one place, and the first word at another
+module _ (l : List ℕ) (at from to : ℕ) (e : from ≡ at + blanks (drop at l)) (f : to ≡ from + letters (drop from l)) where
   pub trimmed-at : trimmed (drop at l) ≡ drop from l
-  trimmed-at = drop-drop (blanks (drop at l)) at l
+  trimmed-at = drop-drop (blanks (drop at l)) at l ∙ rw (← e)
 
-  pub behind-at : behind (drop at l) ≡ drop (from + letters (drop from l)) l
-  behind-at = rw trimmed-at (drop-drop (letters (drop from l)) from l)
+  pub word-at : take (to - from) (drop from l) ≡ firstWord (drop at l)
+  word-at =
+      let g : to - from ≡ letters (drop from l) = omega (arith, f) in
+      rw (g, trimmed-at)
 
-  pub word-at : firstWord (drop at l) ≡ take (letters (drop from l)) (drop from l)
-  word-at = rw trimmed-at
+  pub behind-at : drop to l ≡ behind (drop at l)
+  behind-at = sym (rw trimmed-at (drop-drop (letters (drop from l)) from l ∙ rw (← f)))
+
+  pub word-length : to ≤ length l → length (firstWord (drop at l)) ≡ to - from
+  word-length h = rw (← word-at) (length-take-le (to - from) (drop from l) (omega (arith, length-drop from l)))

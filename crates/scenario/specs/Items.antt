@@ -3,6 +3,7 @@ use Prim.Native.Nat.{ℕ}
 use Prim.Native.String.{String}
 use mathlib.Core.Bool.{true, false, not, _||_}
 use mathlib.Core.List.{List, [], _∷_}
+use lib.Dec.{leb}
 use lib.ListN.{length, getD, drop}
 use Rattle.search.specs.Words.{if_then_else_, _is_}
 use Rattle.search.specs.First.{first}
@@ -127,7 +128,7 @@ module _ (i : ℕ) (rest : List ℕ) where
 
   unfoldable pub wrongRows : List Row
   wrongRows =
-      unknown when i is itemCount otherwise
+      unknown when leb itemCount i otherwise
       misfit 0 otherwise misfit 1 otherwise misfit 2 otherwise misfit 3 otherwise misfit 4 otherwise
       []
 

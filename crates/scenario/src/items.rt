@@ -9,7 +9,7 @@ use crate::reading::said_length;
 use crate::reading::word_end;
 use input::Event;
 ghost use mathlib.Core.Path.{_≡_};
-ghost use Prim.Native.Nat.{_≤_, _<_};
+ghost use Prim.Native.Nat.{_%_, _≤_, _<_};
 ghost use mathlib.Core.Bool.{not};
 ghost use lib.ListN.{length, drop};
 ghost use Rattle.search.specs.Words.{if_then_else_};
@@ -104,6 +104,18 @@ fn item_named(word: &[u8]) -> usize
 }
 
 // ---- what an item says, with the values behind its name
+fn low_byte(value: u32) -> u8
+    ensures { λ r. ⌜ r ≡ value % 256 ⌝ }
+{
+    (value % 256) as u8
+}
+
+fn low_word(value: u32) -> u16
+    ensures { λ r. ⌜ r ≡ value % 65536 ⌝ }
+{
+    (value % 65536) as u16
+}
+
 fn event(kind: u8, task: u8, resource: u8, tick: u16) -> Item
     ensures { λ r. ⌜ r ≡ spec.event kind task resource tick ⌝ }
 {
@@ -120,21 +132,21 @@ fn event_said(item: usize, a: u32, b: u32, c: u32, d: u32) -> Item
     ensures { λ r. ⌜ Says item a b c d r ⌝ }
 {
     if item == ARRIVE {
-        return event(Event::ARRIVAL, a as u8, 0, b as u16);
+        return event(Event::ARRIVAL, low_byte(a), 0, low_word(b));
     }
     if item == FINISH {
-        return event(Event::FINISH, a as u8, 0, b as u16);
+        return event(Event::FINISH, low_byte(a), 0, low_word(b));
     }
     if item == REQUEST {
-        return event(Event::REQUEST, a as u8, b as u8, c as u16);
+        return event(Event::REQUEST, low_byte(a), low_byte(b), low_word(c));
     }
     if item == COMPLETE {
-        return event(Event::COMPLETION, a as u8, b as u8, c as u16);
+        return event(Event::COMPLETION, low_byte(a), low_byte(b), low_word(c));
     }
     if item == PASS {
-        return event(Event::PASSING, 0, 0, a as u16);
+        return event(Event::PASSING, 0, 0, low_word(a));
     }
-    event(a as u8, b as u8, c as u8, d as u16)
+    event(low_byte(a), low_byte(b), low_byte(c), low_word(d))
 }
 
 fn said(item: usize, a: u32, b: u32, c: u32, d: u32) -> Item
@@ -148,13 +160,13 @@ fn said(item: usize, a: u32, b: u32, c: u32, d: u32) -> Item
         return Item::Start(a);
     }
     if item == TASK {
-        return Item::Task(a as u16);
+        return Item::Task(low_word(a));
     }
     if item == RESOURCE {
-        return Item::Resource(a as u8);
+        return Item::Resource(low_byte(a));
     }
     if item == PAIR {
-        return Item::Pair(a as u8, b as u8);
+        return Item::Pair(low_byte(a), low_byte(b));
     }
     if item == BLOCK {
         return Item::Block;
@@ -186,7 +198,7 @@ fn item_behind(l: &[u8], at: usize, item: usize) -> Item
         a.argument,
         misfit(form.1, b.argument, misfit(form.2, c.argument, last)),
     );
-    let wrong = search::row(Item::UNKNOWN, item == ITEMS, first);
+    let wrong = search::row(Item::UNKNOWN, ITEMS <= item, first);
     if wrong != 0 {
         return Item::Wrong(wrong);
     }
