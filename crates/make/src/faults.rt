@@ -62,7 +62,7 @@ pub fn say_faulty_end(reason: u8) {
 
 pub fn say_long(number: u64) {
     say_line(number);
-    say(b"more than 65535 bytes\n");
+    say(b"a line has at most 65535 bytes\n");
 }
 
 // A refused set-up, or a block past the last index.

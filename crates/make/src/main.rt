@@ -8,8 +8,13 @@ use libc::STDOUT_FILENO;
 use scenario::Draft;
 use scenario::Item;
 use scenario::Told;
+ghost use Prim.Native.Nat.{_≤_};
+ghost use lib.ListN.{length};
 
 const LINE_FEED: u8 = 10;
+
+// The buffer for the text: a line and its line feed fit.
+const TEXT: usize = 65536;
 
 // A scenario half read: the draft of its file, how many lines were read, and whether the output has ended.
 struct Making {
@@ -22,6 +27,12 @@ struct Making {
 struct Rest {
     making: Making,
     at: usize,
+}
+
+// How much of the buffer is held after a read, and whether the read failed.
+struct More {
+    held: usize,
+    failed: bool,
 }
 
 // Writes the block that an item completed, or says what is wrong with the item; gives whether the output has ended.
@@ -51,7 +62,8 @@ fn take_line(making: Making, line: &[u8]) -> Making {
     let lines = std::num::wrapping_add_u64(making.lines, 1);
     let taken = scenario::take_item(making.draft, scenario::read_line(line), &mut block);
     let draft = taken.draft;
-    let over = answer(taken.told, lines, line, &block);
+    let told = taken.told;
+    let over = answer(told, lines, line, &block);
     Making { draft, lines, over }
 }
 
@@ -92,7 +104,9 @@ fn take_end(begun: Making, rest: &[u8]) {
 }
 
 // Moves what stands from a place on to the front.
-fn move_to_front(text: &mut [u8], from: usize, to: usize) {
+fn move_to_front(text: &mut [u8], from: usize, to: usize)
+    requires { ⌜ (from ≤ to) × (to ≤ length (now text)) ⌝ }
+{
     let mut i = 0;
     while from + i < to {
         text[i] = text[from + i];
@@ -100,9 +114,21 @@ fn move_to_front(text: &mut [u8], from: usize, to: usize) {
     }
 }
 
+// Reads more behind what is held; gives how much is held then. A read that fails ends the program's work.
+fn read_more(text: &mut [u8], held: usize) -> More
+    requires { ⌜ held ≤ length (now text) ⌝ }
+    ensures { λ r. ⌜ (held ≤ r .held) × (r .held ≤ length (now (text .exit))) ⌝ }
+{
+    let got = libc::read(STDIN_FILENO, &mut text[held..]);
+    let more = io::count(got, &text[held..]);
+    More {
+        held: held + more,
+        failed: got < 0,
+    }
+}
+
 fn main() {
-    let mut space = io::large_buffer();
-    let text: &mut [u8] = &mut space;
+    let mut text = io::large_buffer();
     let mut held = 0;
     let mut making = Making {
         draft: scenario::begin(),
@@ -112,26 +138,25 @@ fn main() {
     // Every turn but the last reads a byte or more, so that no text has as many.
     let mut turns = 18446744073709551615u64;
     while turns > 0 && !making.over {
-        if held == text.len() {
+        turns -= 1;
+        if held == TEXT {
             faults::say_long(std::num::wrapping_add_u64(making.lines, 1));
             return;
         }
-        let got = libc::read(STDIN_FILENO, &mut text[held..]);
-        if got < 0 {
+        let more = read_more(&mut text, held);
+        if more.failed {
             faults::say_unread();
             return;
         }
-        let more = io::count(got, &text[held..]);
-        if more == 0 {
+        if more.held == held {
             take_end(making, &text[..held]);
             return;
         }
-        held += more;
+        held = more.held;
         let rest = take_lines(making, &text[..held]);
         making = rest.making;
         let from = rest.at;
-        move_to_front(text, from, held);
+        move_to_front(&mut text, from, held);
         held -= from;
-        turns -= 1;
     }
 }
