@@ -21,9 +21,12 @@ use Rattle.scenario.specs.declared.Item.the-variants.{Wrong}
 use Rattle.scenario.proofs.Sorts.{argument-small, fifth-none}
 
 -- one row more, in front of the later ones
-pub row-on : {x y : Argument} {s t later rest r : ℕ} → x ≡ y → s ≡ t → later ≡ rest
+row-on : {x y : Argument} {s t later rest r : ℕ} → x ≡ y → s ≡ t → later ≡ rest
     → r ≡ (if not (x .right) then s else later) → r ≡ (if not (y .right) then t else rest)
 row-on p q f e = rw (e, p, q, f)
+
+no-row : _≡_ {A = ℕ} 0 0
+no-row = refl
 
 -- ---- five words read one behind another, of an item's sorts
 module _ (l : List ℕ) (at i : ℕ) (form : Form) (has : form ≡ formOf i) (a b c d e : Read)
@@ -51,6 +54,24 @@ module _ (l : List ℕ) (at i : ℕ) (form : Form) (has : form ≡ formOf i) (a 
   pub fifth-read : e .argument ≡ argumentAt i rest 4
   unfolding word
   fifth-read = re .argument ∙ rw (rd .rest, rc .rest, rb .rest, ra .rest, fifth-none i)
+
+  -- what is wrong with them, row after row from the last on
+  pub wrong-read : (r4 r3 r2 r1 r0 wrong : ℕ)
+      → r4 ≡ (if not (e .argument .right) then noMore else 0)
+      → r3 ≡ (if not (d .argument .right) then form .3 else r4)
+      → r2 ≡ (if not (c .argument .right) then form .2 else r3)
+      → r1 ≡ (if not (b .argument .right) then form .1 else r2)
+      → r0 ≡ (if not (a .argument .right) then form .0 else r1)
+      → wrong ≡ (if leb itemCount i then unknown else r0)
+      → wrong ≡ firstOf (wrongRows i rest)
+  unfolding wrongRows
+  wrong-read r4 r3 r2 r1 r0 wrong e4 e3 e2 e1 e0 w =
+      let w4 = row-on fifth-read (sym (fifth-none i)) no-row e4 in
+      let w3 = row-on fourth-read (ap (λ (f : Form). f .3) has) w4 e3 in
+      let w2 = row-on third-read (ap (λ (f : Form). f .2) has) w3 e2 in
+      let w1 = row-on second-read (ap (λ (f : Form). f .1) has) w2 e1 in
+      let w0 = row-on first-read (ap (λ (f : Form). f .0) has) w1 e0 in
+      rw (w, w0)
 
   -- their values fit
   pub all-fit : Fit i (a .argument .value) (b .argument .value) (c .argument .value) (d .argument .value)

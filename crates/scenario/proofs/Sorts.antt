@@ -21,7 +21,13 @@ use Rattle.scenario.specs.declared.Form.{Form}
 
 -- ---- the sorts of each item's words
 abbrev formIn : Entry → Form
-formIn e = record { 0 = getD (e .sorts) 0 noMore; 1 = getD (e .sorts) 1 noMore; 2 = getD (e .sorts) 2 noMore; 3 = getD (e .sorts) 3 noMore }
+formIn e =
+    record {
+      0 = getD (e .sorts) 0 noMore;
+      1 = getD (e .sorts) 1 noMore;
+      2 = getD (e .sorts) 2 noMore;
+      3 = getD (e .sorts) 3 noMore;
+    }
 
 pub form-at : (i : ℕ) (none : Form) → i < itemCount → getD (map formIn items) i none ≡ formOf i
 unfolding sortAt entryAt
@@ -32,7 +38,8 @@ unfolding sortAt entryAt
 form-past i h = rw (List·getD-eq-default items noEntry {n = i} h)
 
 -- ---- the item of a name: one of a chain of tests
-pub picked : {p b : Bool} {x y r : ℕ} (here : ℕ) → p ≡ b → x ≡ y → r ≡ (if p then here else x) → r ≡ (if b then here else y)
+pub picked : {p b : Bool} {x y r : ℕ} (here : ℕ) → p ≡ b → x ≡ y → r ≡ (if p then here else x) → r ≡
+    (if b then here else y)
 picked here q f e = rw (e, q, f)
 
 pub named : (w : List ℕ) → itemNamed w ≡ (
@@ -89,7 +96,9 @@ unfolding argumentOf mostOf
 argument-small sort w = go (sort is noMore) (sort is aTick) (sort is aKind) refl refl refl
   where
     go : (a b c : Bool) → (sort is noMore) ≡ a → (sort is aTick) ≡ b → (sort is aKind) ≡ c
-        → (if a then (if length w is 0 then one 0 else notOne) else if b then tickIn w else if c then kindIn w else numberIn (mostOf sort) w) .value ≤ mostOf sort
+        →
+        (if a then (if length w is 0 then one 0 else notOne) else if b then tickIn w else if c then kindIn w else numberIn (mostOf sort) w)
+        .value ≤ mostOf sort
     go true b c e f g = let n = none-small w in omega (arith, n)
     go false true c e f g = rw (eqb-true sort aTick f) (tick-small w)
     go false false true e f g = rw (eqb-true sort aKind g) (kind-small w)

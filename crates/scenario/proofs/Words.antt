@@ -110,7 +110,8 @@ pub tail-all : (w : List ℕ) → take (length w - 1) (drop 1 w) ≡ drop 1 w
 tail-all w = take-all (length w - 1) (drop 1 w) (omega (arith, length-drop 1 w))
 
 -- ---- words by places: from `at` on the blanks end at one place, and the first word at another
-module _ (l : List ℕ) (at from to : ℕ) (e : from ≡ at + blanks (drop at l)) (f : to ≡ from + letters (drop from l)) where
+module _ (l : List ℕ) (at from to : ℕ) (e : from ≡ at + blanks (drop at l))
+    (f : to ≡ from + letters (drop from l)) where
   pub trimmed-at : trimmed (drop at l) ≡ drop from l
   trimmed-at = drop-drop (blanks (drop at l)) at l ∙ rw (← e)
 

@@ -5,7 +5,6 @@ use mathlib.Core.List.{List, []}
 use lib.Dec.{leb}
 use lib.ListN.{set, replicate}
 use Rattle.search.specs.Words.{if_then_else_, _is_, _isn't_}
-use Rattle.search.specs.Rows.{Row, _when_, _otherwise_, firstOf}
 use Rattle.input.specs.Limits.{mostTasks, mostResources, mostPairs}
 use Rattle.input.specs.Kinds.{noEvent}
 use Rattle.input.specs.Words.{noSetUp}
@@ -43,40 +42,42 @@ noEvents = record { of = replicate mostEvents noEvent; count = 0 }
 abbrev pub adding : Event → Events → Events
 adding e x = record { of = set (x .of) (x .count) e; count = suc (x .count) }
 
--- ---- a draft: its set-up so far; whether its processors and its start are given; the index of the block being filled, 0
--- while the set-up is open; and the events of that block
+-- ---- a draft: its set-up so far; whether its processors and its start are given; the index of the block being
+-- filled, which is 0 while the set-up is open; and the events of that block
+abbrev pub draftBy : SetUp → Bool → Bool → ℕ → Events → Draft
+draftBy c sized started index x = record { setup = c; sized = sized; started = started; index = index; events = x }
+
 abbrev pub noDraft : Draft
-noDraft = record { setup = noSetUp; sized = false; started = false; index = 0; events = noEvents }
-
-abbrev pub sizedBy : ℕ → Draft → Draft
-sizedBy n d = record { setup = withProcessors n (d .setup); sized = true; started = d .started; index = d .index; events = d .events }
-
-abbrev pub startedAt : ℕ → Draft → Draft
-startedAt n d = record { setup = withStart n (d .setup); sized = d .sized; started = true; index = d .index; events = d .events }
+noDraft = draftBy noSetUp false false 0 noEvents
 
 module _ (d : Draft) where
-  -- with another set-up
+  abbrev pub sizedBy : ℕ → Draft
+  sizedBy m = draftBy (withProcessors (d .setup) m) true (d .started) (d .index) (d .events)
+
+  abbrev pub startedAt : ℕ → Draft
+  startedAt start = draftBy (withStart (d .setup) start) (d .sized) true (d .index) (d .events)
+
   abbrev pub withSetUp : SetUp → Draft
-  withSetUp c = record { setup = c; sized = d .sized; started = d .started; index = d .index; events = d .events }
+  withSetUp c = draftBy c (d .sized) (d .started) (d .index) (d .events)
 
   -- with block n begun, and these events in it
   abbrev pub filling : ℕ → Events → Draft
-  filling n x = record { setup = d .setup; sized = d .sized; started = d .started; index = n; events = x }
+  filling n x = draftBy (d .setup) (d .sized) (d .started) n x
 
--- nothing is written; something is wrong with the item
+-- ---- what became of an item: it is kept, and nothing is written; something is wrong with it
 abbrev pub kept : Draft → Taken
 kept next = record { draft = next; told = Kept }
 
 abbrev pub faulty : Draft → ℕ → Taken
 faulty d reason = record { draft = d; told = Faulty reason }
 
--- the number of a block: it is written, or refused, and then the draft stays as it was
+-- the writer's answer: the block is written, or refused, and then the draft stays as it was
 unfoldable pub answered : Draft → Draft → ℕ → Taken
 answered d next number =
     if number is 0 then record { draft = next; told = Written } else record { draft = d; told = Refused number }
 
 module _ (d : Draft) where
-  -- an item of the set-up comes before its end, and nothing bars it
+  -- an item of the set-up: it comes before the set-up's end, and nothing bars it
   unfoldable pub settled : ℕ → Bool → Draft → Taken
   settled reason bars next =
       if d .index isn't 0 then faulty d late else
@@ -86,15 +87,16 @@ module _ (d : Draft) where
   -- the set-up ends, and block 1 begins with these events
   unfoldable pub setUpEnds : Events → List ℕ → Taken × List ℕ
   setUpEnds x out =
-      if d .sized then (answered d (filling d 1 x) (setUpWritten (d .setup) out .0), setUpWritten (d .setup) out .1) else
-      (faulty d missing, out)
+      let w = setUpWritten (d .setup) out in
+      if d .sized then (answered d (filling d 1 x) (w .0), w .1) else (faulty d missing, out)
 
   -- a block of events ends, and the next one begins with these
   unfoldable pub blockEnds : Events → List ℕ → Taken × List ℕ
   blockEnds x out =
-      (answered d (filling d (suc (d .index)) x) (eventsWritten (d .events) (d .index) out .0), eventsWritten (d .events) (d .index) out .1)
+      let w = eventsWritten (d .events) (d .index) out in
+      (answered d (filling d (suc (d .index)) x) (w .0), w .1)
 
-  -- an event; the first one ends the set-up, and one that finds the block full ends that
+  -- an event; the first one ends the set-up, and one that finds its block full ends that
   unfoldable pub eventTaken : Event → List ℕ → Taken × List ℕ
   eventTaken e out =
       if d .index is 0 then setUpEnds (adding e noEvents) out else
@@ -108,13 +110,17 @@ module _ (d : Draft) where
       if d .events .count is 0 then (kept d, out) else
       blockEnds noEvents out
 
+  -- what an item does, and the lent buffer behind it
   unfoldable pub taken : Item → List ℕ → Taken × List ℕ
   taken Blank out = (kept d, out)
-  taken (Processors n) out = (settled twice (d .sized) (sizedBy n d), out)
-  taken (Start n) out = (settled twice (d .started) (startedAt n d), out)
-  taken (Task period) out = (settled full (leb mostTasks (d .setup .tasks)) (withSetUp d (withTask period (d .setup))), out)
-  taken (Resource kind) out = (settled full (leb mostResources (d .setup .resources)) (withSetUp d (withResource kind (d .setup))), out)
-  taken (Pair outer inner) out = (settled full (leb mostPairs (d .setup .pairs)) (withSetUp d (withPair outer inner (d .setup))), out)
+  taken (Processors m) out = (settled twice (d .sized) (sizedBy d m), out)
+  taken (Start start) out = (settled twice (d .started) (startedAt d start), out)
+  taken (Task period) out =
+      let c = d .setup in (settled full (leb mostTasks (c .tasks)) (withSetUp d (withTask c period)), out)
+  taken (Resource kind) out =
+      let c = d .setup in (settled full (leb mostResources (c .resources)) (withSetUp d (withResource c kind)), out)
+  taken (Pair outer inner) out =
+      let c = d .setup in (settled full (leb mostPairs (c .pairs)) (withSetUp d (withPair c outer inner)), out)
   taken (Happens e) out = eventTaken e out
   taken Block out = blockTaken out
   taken (Wrong reason) out = (faulty d reason, out)

@@ -1,4 +1,4 @@
--- A whole scenario: what its items say, the blocks that they write, and the theorem that the one reads back from the other.
+-- A whole scenario: what its items say, the blocks that they write, and the theorem that these say the same.
 use Prim.Native.Nat.{ℕ, _<_}
 use mathlib.Core.Path.{_≡_}
 use mathlib.Core.Bool.{Bool, true, false}
@@ -23,11 +23,11 @@ use Rattle.scenario.specs.declared.Told.the-variants.{Kept, Written, Fau
 -- ---- what items say, in order: a set-up, and events
 unfoldable pub setUpWith : Item → SetUp → SetUp
 setUpWith Blank c = c
-setUpWith (Processors n) c = withProcessors n c
-setUpWith (Start n) c = withStart n c
-setUpWith (Task period) c = withTask period c
-setUpWith (Resource kind) c = withResource kind c
-setUpWith (Pair outer inner) c = withPair outer inner c
+setUpWith (Processors n) c = withProcessors c n
+setUpWith (Start n) c = withStart c n
+setUpWith (Task period) c = withTask c period
+setUpWith (Resource kind) c = withResource c kind
+setUpWith (Pair outer inner) c = withPair c outer inner
 setUpWith (Happens e) c = c
 setUpWith Block c = c
 setUpWith (Wrong reason) c = c
@@ -51,7 +51,7 @@ unfoldable pub eventsSaid : List Item → List Event
 eventsSaid [] = []
 eventsSaid (item ∷ items) = eventsWith item (eventsSaid items)
 
--- ---- the blocks that items write, from a draft on, up to the first that is faulty or refused; and whether all were taken
+-- ---- the blocks that items write, from a draft on, up to the first that is faulty or refused; and whether there is none
 pub record Blocks : Type 0 where
   pub all : Bool
   pub blocks : List (List ℕ)
@@ -79,10 +79,11 @@ itemsOf lines = map itemOf lines
 abbrev pub blocksMade : List (List ℕ) → Blocks
 blocksMade lines = blocksFrom noDraft (itemsOf lines ++ (Block ∷ []))
 
--- ---- a scenario of which every line is taken: the reader accepts each block, and reads the set-up and the events that the
--- lines say, places past the counts being 0
+-- ---- a scenario with no line that is faulty or refused: the reader accepts each block, and reads the set-up and the
+-- events that the lines say, places past the counts being 0
 pub record IsMade (lines : List (List ℕ)) : Type 0 where
-  pub accepted : (i : ℕ) → i < length (blocksMade lines .blocks) → refusalOf (getD (blocksMade lines .blocks) i []) i ≡ 0
+  pub accepted : (i : ℕ) → i < length (blocksMade lines .blocks)
+      → refusalOf (getD (blocksMade lines .blocks) i []) i ≡ 0
   pub setup : setUpOf (blocksMade lines .blocks) ≡ cleared (setUpSaid noSetUp (itemsOf lines))
   pub free : setUpRefusal (setUpSaid noSetUp (itemsOf lines)) ≡ 0
   pub events : eventsOf (blocksMade lines .blocks) ≡ eventsSaid (itemsOf lines)

@@ -1,20 +1,43 @@
--- What an item gives to a set-up: a count, its start, or one place more of a table.
+-- What an item gives to a set-up: its processors, its start, or one place more of a table.
 use Prim.Native.Nat.{ℕ, suc}
+use mathlib.Core.List.{List}
 use lib.ListN.{set}
 use Rattle.input.specs.declared.SetUp.{SetUp}
 
-module _ (n : ℕ) (c : SetUp) where
-  abbrev pub withProcessors : SetUp
-  withProcessors = record { processors = n; tasks = c .tasks; resources = c .resources; pairs = c .pairs; start = c .start; periods = c .periods; kinds = c .kinds; outer = c .outer; inner = c .inner }
+-- in document 01's order: four counts, start, periods, kinds, and the two sides of the pairs
+abbrev pub setUpBy : ℕ → ℕ → ℕ → ℕ → ℕ → List ℕ → List ℕ → List ℕ → List ℕ → SetUp
+setUpBy m n r p start periods kinds outer inner = record {
+  processors = m;
+  tasks = n;
+  resources = r;
+  pairs = p;
+  start = start;
+  periods = periods;
+  kinds = kinds;
+  outer = outer;
+  inner = inner;
+}
 
-  abbrev pub withStart : SetUp
-  withStart = record { processors = c .processors; tasks = c .tasks; resources = c .resources; pairs = c .pairs; start = n; periods = c .periods; kinds = c .kinds; outer = c .outer; inner = c .inner }
+module _ (c : SetUp) where
+  abbrev pub withProcessors : ℕ → SetUp
+  withProcessors m =
+      setUpBy m (c .tasks) (c .resources) (c .pairs) (c .start) (c .periods) (c .kinds) (c .outer) (c .inner)
 
-abbrev pub withTask : ℕ → SetUp → SetUp
-withTask period c = record { processors = c .processors; tasks = suc (c .tasks); resources = c .resources; pairs = c .pairs; start = c .start; periods = set (c .periods) (c .tasks) period; kinds = c .kinds; outer = c .outer; inner = c .inner }
+  abbrev pub withStart : ℕ → SetUp
+  withStart start =
+      setUpBy (c .processors) (c .tasks) (c .resources) (c .pairs) start (c .periods) (c .kinds) (c .outer) (c .inner)
 
-abbrev pub withResource : ℕ → SetUp → SetUp
-withResource kind c = record { processors = c .processors; tasks = c .tasks; resources = suc (c .resources); pairs = c .pairs; start = c .start; periods = c .periods; kinds = set (c .kinds) (c .resources) kind; outer = c .outer; inner = c .inner }
+  abbrev pub withTask : ℕ → SetUp
+  withTask period =
+      setUpBy (c .processors) (suc (c .tasks)) (c .resources) (c .pairs) (c .start)
+      (set (c .periods) (c .tasks) period) (c .kinds) (c .outer) (c .inner)
 
-abbrev pub withPair : ℕ → ℕ → SetUp → SetUp
-withPair outer inner c = record { processors = c .processors; tasks = c .tasks; resources = c .resources; pairs = suc (c .pairs); start = c .start; periods = c .periods; kinds = c .kinds; outer = set (c .outer) (c .pairs) outer; inner = set (c .inner) (c .pairs) inner }
+  abbrev pub withResource : ℕ → SetUp
+  withResource kind =
+      setUpBy (c .processors) (c .tasks) (suc (c .resources)) (c .pairs) (c .start)
+      (c .periods) (set (c .kinds) (c .resources) kind) (c .outer) (c .inner)
+
+  abbrev pub withPair : ℕ → ℕ → SetUp
+  withPair outer inner =
+      setUpBy (c .processors) (c .tasks) (c .resources) (suc (c .pairs)) (c .start)
+      (c .periods) (c .kinds) (set (c .outer) (c .pairs) outer) (set (c .inner) (c .pairs) inner)

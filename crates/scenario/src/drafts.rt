@@ -91,7 +91,7 @@ fn filling(draft: Draft, index: u64, events: Events) -> Draft
 
 // ---- the items of the set-up
 fn take_processors(draft: Draft, n: u32) -> Taken
-    ensures { λ r. ⌜ r ≡ settled draft twice (draft .sized) (sizedBy n draft) ⌝ }
+    ensures { λ r. ⌜ r ≡ settled draft twice (draft .sized) (sizedBy draft n) ⌝ }
 {
     if draft.index != 0 {
         return faulty(draft, Item::LATE);
@@ -105,7 +105,7 @@ fn take_processors(draft: Draft, n: u32) -> Taken
 }
 
 fn take_start(draft: Draft, start: u32) -> Taken
-    ensures { λ r. ⌜ r ≡ settled draft twice (draft .started) (startedAt start draft) ⌝ }
+    ensures { λ r. ⌜ r ≡ settled draft twice (draft .started) (startedAt draft start) ⌝ }
 {
     if draft.index != 0 {
         return faulty(draft, Item::LATE);
@@ -120,7 +120,7 @@ fn take_start(draft: Draft, start: u32) -> Taken
 
 fn take_task(draft: Draft, period: u16) -> Taken
     ensures { λ r. ⌜ r ≡ settled draft full (leb mostTasks (draft .setup .tasks))
-        (withSetUp draft (withTask period (draft .setup))) ⌝ }
+        (withSetUp draft (withTask (draft .setup) period)) ⌝ }
 {
     let setup = draft.setup;
     if draft.index != 0 {
@@ -134,7 +134,7 @@ fn take_task(draft: Draft, period: u16) -> Taken
 
 fn take_resource(draft: Draft, kind: u8) -> Taken
     ensures { λ r. ⌜ r ≡ settled draft full (leb mostResources (draft .setup .resources))
-        (withSetUp draft (withResource kind (draft .setup))) ⌝ }
+        (withSetUp draft (withResource (draft .setup) kind)) ⌝ }
 {
     let setup = draft.setup;
     if draft.index != 0 {
@@ -148,7 +148,7 @@ fn take_resource(draft: Draft, kind: u8) -> Taken
 
 fn take_pair(draft: Draft, outer: u8, inner: u8) -> Taken
     ensures { λ r. ⌜ r ≡ settled draft full (leb mostPairs (draft .setup .pairs))
-        (withSetUp draft (withPair outer inner (draft .setup))) ⌝ }
+        (withSetUp draft (withPair (draft .setup) outer inner)) ⌝ }
 {
     let setup = draft.setup;
     if draft.index != 0 {

@@ -6,7 +6,7 @@ ghost use Rattle.input.specs.Limits.{mostTasks, mostResources, mostPairs};
 ghost use Rattle.scenario.specs.SetUps.{withProcessors, withStart, withTask, withResource, withPair};
 
 pub fn with_processors(setup: SetUp, n: usize) -> SetUp
-    ensures { λ r. ⌜ r ≡ withProcessors n setup ⌝ }
+    ensures { λ r. ⌜ r ≡ withProcessors setup n ⌝ }
 {
     let mut next = setup;
     next.processors = n;
@@ -14,7 +14,7 @@ pub fn with_processors(setup: SetUp, n: usize) -> SetUp
 }
 
 pub fn with_start(setup: SetUp, start: u32) -> SetUp
-    ensures { λ r. ⌜ r ≡ withStart start setup ⌝ }
+    ensures { λ r. ⌜ r ≡ withStart setup start ⌝ }
 {
     let mut next = setup;
     next.start = start;
@@ -23,7 +23,7 @@ pub fn with_start(setup: SetUp, start: u32) -> SetUp
 
 pub fn with_task(setup: SetUp, period: u16) -> SetUp
     requires { ⌜ setup .tasks < mostTasks ⌝ }
-    ensures { λ r. ⌜ r ≡ withTask period setup ⌝ }
+    ensures { λ r. ⌜ r ≡ withTask setup period ⌝ }
 {
     let mut next = setup;
     let t = setup.tasks;
@@ -34,7 +34,7 @@ pub fn with_task(setup: SetUp, period: u16) -> SetUp
 
 pub fn with_resource(setup: SetUp, kind: u8) -> SetUp
     requires { ⌜ setup .resources < mostResources ⌝ }
-    ensures { λ r. ⌜ r ≡ withResource kind setup ⌝ }
+    ensures { λ r. ⌜ r ≡ withResource setup kind ⌝ }
 {
     let mut next = setup;
     let r = setup.resources;
@@ -45,7 +45,7 @@ pub fn with_resource(setup: SetUp, kind: u8) -> SetUp
 
 pub fn with_pair(setup: SetUp, outer: u8, inner: u8) -> SetUp
     requires { ⌜ setup .pairs < mostPairs ⌝ }
-    ensures { λ r. ⌜ r ≡ withPair outer inner setup ⌝ }
+    ensures { λ r. ⌜ r ≡ withPair setup outer inner ⌝ }
 {
     let mut next = setup;
     let i = setup.pairs;

@@ -6,8 +6,7 @@ use lib.ListN.{drop}
 use Rattle.search.specs.Rows.{firstOf}
 use Rattle.scenario.specs.Items.{wrongRows}
 use Rattle.scenario.specs.declared.Form.{Form}
-use Rattle.scenario.proofs.Sorts.{fifth-none}
-use Rattle.scenario.proofs.Behind.{row-on, first-read, second-read, third-read, fourth-read, fifth-read, all-fit, behind-wrong, behind-right, in-table}
+use Rattle.scenario.proofs.Behind.{first-read, second-read, third-read, fourth-read, wrong-read, all-fit, behind-wrong, behind-right, in-table}
 use Rattle.scenario.specs.declared.Argument.{Argument}
 use Rattle.scenario.proofs.items.item_behind.Statement.{statement}
 use Rattle.scenario.proofs.items.item_behind.Tie as tie
@@ -69,18 +68,100 @@ row-requires c κs = search needs
 
 -- src/items.rt:203:9
 returns : tie.Need-returns
-unfolding wrongRows
-returns c = let l = (c .before .before .before .before .before .before .before .before .before .before .before .before .before .before .args) .l .now in let at = (c .before .before .before .before .before .before .before .before .before .before .before .before .before .before .args) .at in let i = (c .before .before .before .before .before .before .before .before .before .before .before .before .before .before .args) .item in let h = (c .before .before .before .before .before .before .before .before .before .before .before .before .form-of) .ensures in let ra = (c .before .before .before .before .before .before .before .before .before .before .before .read-argument) .ensures in let rb = (c .before .before .before .before .before .before .before .before .before .before .read-argument2) .ensures in let rc = (c .before .before .before .before .before .before .before .before .before .read-argument3) .ensures in let rd = (c .before .before .before .before .before .before .before .before .read-argument4) .ensures in let re = (c .before .before .before .before .before .before .before .read-argument5) .ensures in let none : _≡_ {A = ℕ} 0 0 = refl in let w4 = row-on (fifth-read l at i _ h _ _ _ _ _ ra rb rc rd re) (sym (fifth-none i)) none ((c .before .before .before .before .before .before .misfit) .ensures) in let w3 = row-on (fourth-read l at i _ h _ _ _ _ _ ra rb rc rd re) (ap (λ (f : Form). f .3) h) w4 ((c .before .before .before .before .before .misfit2) .ensures) in let w2 = row-on (third-read l at i _ h _ _ _ _ _ ra rb rc rd re) (ap (λ (f : Form). f .2) h) w3 ((c .before .before .before .before .misfit3) .ensures) in let w1 = row-on (second-read l at i _ h _ _ _ _ _ ra rb rc rd re) (ap (λ (f : Form). f .1) h) w2 ((c .before .before .before .misfit4) .ensures) in let w0 = row-on (first-read l at i _ h _ _ _ _ _ ra rb rc rd re) (ap (λ (f : Form). f .0) h) w1 ((c .before .before .misfit5) .ensures) in let w : (c .before .row) .result ≡ firstOf (wrongRows i (drop at l)) = rw ((c .before .row) .ensures, w0) in behind-wrong i (drop at l) _ w ((c .if1) .taken)
+returns c =
+    let l =
+    (c .before .before .before .before .before .before .before .before .before .before .before .before .before .before .args)
+    .l .now in
+    let at =
+    (c .before .before .before .before .before .before .before .before .before .before .before .before .before .before .args)
+    .at in
+    let i =
+    (c .before .before .before .before .before .before .before .before .before .before .before .before .before .before .args)
+    .item in
+    let h =
+    (c .before .before .before .before .before .before .before .before .before .before .before .before .form-of)
+    .ensures in
+    let ra =
+    (c .before .before .before .before .before .before .before .before .before .before .before .read-argument)
+    .ensures in
+    let rb = (c .before .before .before .before .before .before .before .before .before .before .read-argument2)
+    .ensures in
+    let rc = (c .before .before .before .before .before .before .before .before .before .read-argument3) .ensures in
+    let rd = (c .before .before .before .before .before .before .before .before .read-argument4) .ensures in
+    let re = (c .before .before .before .before .before .before .before .read-argument5) .ensures in
+    let w : (c .before .row) .result ≡ firstOf (wrongRows i (drop at l)) = wrong-read l at i _ h _ _ _ _ _ ra rb
+    rc rd re _ _ _ _ _ _ ((c .before .before .before .before .before .before .misfit) .ensures)
+    ((c .before .before .before .before .before .misfit2) .ensures)
+    ((c .before .before .before .before .misfit3) .ensures) ((c .before .before .before .misfit4) .ensures)
+    ((c .before .before .misfit5) .ensures) ((c .before .row) .ensures) in
+    behind-wrong i (drop at l) _ w ((c .if1) .taken)
 
 -- src/items.rt:205:5
 said-requires : tie.Need-said-requires
-unfolding wrongRows
-said-requires c κs = let l = (c .before .before .before .before .before .before .before .before .before .before .before .before .before .before .args) .l .now in let at = (c .before .before .before .before .before .before .before .before .before .before .before .before .before .before .args) .at in let i = (c .before .before .before .before .before .before .before .before .before .before .before .before .before .before .args) .item in let h = (c .before .before .before .before .before .before .before .before .before .before .before .before .form-of) .ensures in let ra = (c .before .before .before .before .before .before .before .before .before .before .before .read-argument) .ensures in let rb = (c .before .before .before .before .before .before .before .before .before .before .read-argument2) .ensures in let rc = (c .before .before .before .before .before .before .before .before .before .read-argument3) .ensures in let rd = (c .before .before .before .before .before .before .before .before .read-argument4) .ensures in let re = (c .before .before .before .before .before .before .before .read-argument5) .ensures in let none : _≡_ {A = ℕ} 0 0 = refl in let w4 = row-on (fifth-read l at i _ h _ _ _ _ _ ra rb rc rd re) (sym (fifth-none i)) none ((c .before .before .before .before .before .before .misfit) .ensures) in let w3 = row-on (fourth-read l at i _ h _ _ _ _ _ ra rb rc rd re) (ap (λ (f : Form). f .3) h) w4 ((c .before .before .before .before .before .misfit2) .ensures) in let w2 = row-on (third-read l at i _ h _ _ _ _ _ ra rb rc rd re) (ap (λ (f : Form). f .2) h) w3 ((c .before .before .before .before .misfit3) .ensures) in let w1 = row-on (second-read l at i _ h _ _ _ _ _ ra rb rc rd re) (ap (λ (f : Form). f .1) h) w2 ((c .before .before .before .misfit4) .ensures) in let w0 = row-on (first-read l at i _ h _ _ _ _ _ ra rb rc rd re) (ap (λ (f : Form). f .0) h) w1 ((c .before .before .misfit5) .ensures) in let w : (c .before .row) .result ≡ firstOf (wrongRows i (drop at l)) = rw ((c .before .row) .ensures, w0) in (in-table i (drop at l) (sym w ∙ ((c .if1) .left)), (all-fit l at i _ h _ _ _ _ _ ra rb rc rd re))
+said-requires c κs =
+    let l =
+    (c .before .before .before .before .before .before .before .before .before .before .before .before .before .before .args)
+    .l .now in
+    let at =
+    (c .before .before .before .before .before .before .before .before .before .before .before .before .before .before .args)
+    .at in
+    let i =
+    (c .before .before .before .before .before .before .before .before .before .before .before .before .before .before .args)
+    .item in
+    let h =
+    (c .before .before .before .before .before .before .before .before .before .before .before .before .form-of)
+    .ensures in
+    let ra =
+    (c .before .before .before .before .before .before .before .before .before .before .before .read-argument)
+    .ensures in
+    let rb = (c .before .before .before .before .before .before .before .before .before .before .read-argument2)
+    .ensures in
+    let rc = (c .before .before .before .before .before .before .before .before .before .read-argument3) .ensures in
+    let rd = (c .before .before .before .before .before .before .before .before .read-argument4) .ensures in
+    let re = (c .before .before .before .before .before .before .before .read-argument5) .ensures in
+    let w : (c .before .row) .result ≡ firstOf (wrongRows i (drop at l)) = wrong-read l at i _ h _ _ _ _ _ ra rb
+    rc rd re _ _ _ _ _ _ ((c .before .before .before .before .before .before .misfit) .ensures)
+    ((c .before .before .before .before .before .misfit2) .ensures)
+    ((c .before .before .before .before .misfit3) .ensures) ((c .before .before .before .misfit4) .ensures)
+    ((c .before .before .misfit5) .ensures) ((c .before .row) .ensures) in
+    (in-table i (drop at l) (sym w ∙ ((c .if1) .left)), (all-fit l at i _ h _ _ _ _ _ ra rb rc rd re))
 
 -- src/items.rt:185:1
 returns-2 : tie.Need-returns-2
-unfolding wrongRows
-returns-2 c = let l = (c .before .before .before .before .before .before .before .before .before .before .before .before .before .before .before .args) .l .now in let at = (c .before .before .before .before .before .before .before .before .before .before .before .before .before .before .before .args) .at in let i = (c .before .before .before .before .before .before .before .before .before .before .before .before .before .before .before .args) .item in let h = (c .before .before .before .before .before .before .before .before .before .before .before .before .before .form-of) .ensures in let ra = (c .before .before .before .before .before .before .before .before .before .before .before .before .read-argument) .ensures in let rb = (c .before .before .before .before .before .before .before .before .before .before .before .read-argument2) .ensures in let rc = (c .before .before .before .before .before .before .before .before .before .before .read-argument3) .ensures in let rd = (c .before .before .before .before .before .before .before .before .before .read-argument4) .ensures in let re = (c .before .before .before .before .before .before .before .before .read-argument5) .ensures in let none : _≡_ {A = ℕ} 0 0 = refl in let w4 = row-on (fifth-read l at i _ h _ _ _ _ _ ra rb rc rd re) (sym (fifth-none i)) none ((c .before .before .before .before .before .before .before .misfit) .ensures) in let w3 = row-on (fourth-read l at i _ h _ _ _ _ _ ra rb rc rd re) (ap (λ (f : Form). f .3) h) w4 ((c .before .before .before .before .before .before .misfit2) .ensures) in let w2 = row-on (third-read l at i _ h _ _ _ _ _ ra rb rc rd re) (ap (λ (f : Form). f .2) h) w3 ((c .before .before .before .before .before .misfit3) .ensures) in let w1 = row-on (second-read l at i _ h _ _ _ _ _ ra rb rc rd re) (ap (λ (f : Form). f .1) h) w2 ((c .before .before .before .before .misfit4) .ensures) in let w0 = row-on (first-read l at i _ h _ _ _ _ _ ra rb rc rd re) (ap (λ (f : Form). f .0) h) w1 ((c .before .before .before .misfit5) .ensures) in let w : (c .before .before .row) .result ≡ firstOf (wrongRows i (drop at l)) = rw ((c .before .before .row) .ensures, w0) in (c .said) .ensures _ (ap (λ (x : Argument). x .value) (sym (first-read l at i _ h _ _ _ _ _ ra rb rc rd re))) (ap (λ (x : Argument). x .value) (sym (second-read l at i _ h _ _ _ _ _ ra rb rc rd re))) (ap (λ (x : Argument). x .value) (sym (third-read l at i _ h _ _ _ _ _ ra rb rc rd re))) (ap (λ (x : Argument). x .value) (sym (fourth-read l at i _ h _ _ _ _ _ ra rb rc rd re))) ∙ sym (behind-right i (drop at l) (sym w ∙ ((c .before .if1) .left)))
+returns-2 c =
+    let l =
+    (c .before .before .before .before .before .before .before .before .before .before .before .before .before .before .before .args)
+    .l .now in
+    let at =
+    (c .before .before .before .before .before .before .before .before .before .before .before .before .before .before .before .args)
+    .at in
+    let i =
+    (c .before .before .before .before .before .before .before .before .before .before .before .before .before .before .before .args)
+    .item in
+    let h =
+    (c .before .before .before .before .before .before .before .before .before .before .before .before .before .form-of)
+    .ensures in
+    let ra =
+    (c .before .before .before .before .before .before .before .before .before .before .before .before .read-argument)
+    .ensures in
+    let rb =
+    (c .before .before .before .before .before .before .before .before .before .before .before .read-argument2)
+    .ensures in
+    let rc = (c .before .before .before .before .before .before .before .before .before .before .read-argument3)
+    .ensures in
+    let rd = (c .before .before .before .before .before .before .before .before .before .read-argument4) .ensures in
+    let re = (c .before .before .before .before .before .before .before .before .read-argument5) .ensures in
+    let w : (c .before .before .row) .result ≡ firstOf (wrongRows i (drop at l)) = wrong-read l at i _ h _ _ _ _ _
+    ra rb rc rd re _ _ _ _ _ _ ((c .before .before .before .before .before .before .before .misfit) .ensures)
+    ((c .before .before .before .before .before .before .misfit2) .ensures)
+    ((c .before .before .before .before .before .misfit3) .ensures)
+    ((c .before .before .before .before .misfit4) .ensures) ((c .before .before .before .misfit5) .ensures)
+    ((c .before .before .row) .ensures) in
+    (c .said) .ensures _ (ap (λ (x : Argument). x .value) (sym (first-read l at i _ h _ _ _ _ _ ra rb rc rd re)))
+    (ap (λ (x : Argument). x .value) (sym (second-read l at i _ h _ _ _ _ _ ra rb rc rd re)))
+    (ap (λ (x : Argument). x .value) (sym (third-read l at i _ h _ _ _ _ _ ra rb rc rd re)))
+    (ap (λ (x : Argument). x .value) (sym (fourth-read l at i _ h _ _ _ _ _ ra rb rc rd re)))
+    ∙ sym (behind-right i (drop at l) (sym w ∙ ((c .before .if1) .left)))
 
 pub item-behind-spec : {M : Type 1} → statement M
 item-behind-spec =

@@ -28,7 +28,13 @@ word-end-requires c κs = search needs
 -- src/items.rt:221:9
 returns : tie.Need-returns
 unfolding itemIn
-returns c = let l = (c .before .before .before .before .args) .l .now in let n = word-length l 0 ((c .before .before .blanks-end) .result) ((c .before .word-end) .result) ((c .before .before .blanks-end) .ensures .0) ((c .before .word-end) .ensures .0) ((c .before .word-end) .ensures .1) in let e : length (firstWord l) ≡ 0 = omega (arith, n, (c .if1) .taken) in rw (eq-eqb _ 0 e)
+returns c =
+    let l = (c .before .before .before .before .args) .l .now in
+    let n = word-length l 0 ((c .before .before .blanks-end) .result) ((c .before .word-end) .result)
+    ((c .before .before .blanks-end) .ensures .0) ((c .before .word-end) .ensures .0)
+    ((c .before .word-end) .ensures .1) in
+    let e : length (firstWord l) ≡ 0 = omega (arith, n, (c .if1) .taken) in
+    rw (eq-eqb _ 0 e)
 
 -- src/items.rt:223:35
 sub-item-named : tie.Need-sub-item-named
@@ -53,7 +59,22 @@ item-behind-requires c κs = search needs
 -- src/items.rt:215:1
 returns-2 : tie.Need-returns-2
 unfolding itemIn
-returns-2 c = let l = (c .before .before .before .before .before .before .before .args) .l .now in let b = (c .before .before .before .before .before .blanks-end) .ensures .0 in let w = (c .before .before .before .before .word-end) .ensures .0 in let n = word-length l 0 ((c .before .before .before .before .before .blanks-end) .result) ((c .before .before .before .before .word-end) .result) b w ((c .before .before .before .before .word-end) .ensures .1) in let d : (length (firstWord l) is 0) ≡ false = ne-eqb (length (firstWord l)) 0 (λ z. (c .before .before .before .if1) .left (omega (arith, n, z, w))) in rw (d, (c .item-behind) .ensures, (c .before .item-named) .ensures, word-at l 0 ((c .before .before .before .before .before .blanks-end) .result) ((c .before .before .before .before .word-end) .result) b w, behind-at l 0 ((c .before .before .before .before .before .blanks-end) .result) ((c .before .before .before .before .word-end) .result) b w)
+returns-2 c =
+    let l = (c .before .before .before .before .before .before .before .args) .l .now in
+    let b = (c .before .before .before .before .before .blanks-end) .ensures .0 in
+    let w = (c .before .before .before .before .word-end) .ensures .0 in
+    let n = word-length l 0 ((c .before .before .before .before .before .blanks-end) .result)
+    ((c .before .before .before .before .word-end) .result) b w
+    ((c .before .before .before .before .word-end) .ensures .1) in
+    let d : (length (firstWord l) is 0) ≡ false = ne-eqb (length (firstWord l)) 0
+    (λ z. (c .before .before .before .if1) .left (omega (arith, n, z, w))) in
+    rw (
+      d,
+      (c .item-behind) .ensures,
+      (c .before .item-named) .ensures,
+      word-at l 0 ((c .before .before .before .before .before .blanks-end) .result) ((c .before .before .before .before .word-end) .result) b w,
+      behind-at l 0 ((c .before .before .before .before .before .blanks-end) .result) ((c .before .before .before .before .word-end) .result) b w,
+    )
 
 pub item-in-spec : {M : Type 1} → statement M
 item-in-spec =

@@ -156,7 +156,32 @@ pick-requires-12 c κs = search needs
 
 -- src/items.rt:89:1
 returns : tie.Need-returns
-returns c = let last : _≡_ {A = ℕ} 12 12 = refl in picked 0 ((c .before .is-word12) .ensures) (picked 1 ((c .before .before .before .before .is-word11) .ensures) (picked 2 ((c .before .before .before .before .before .before .before .is-word10) .ensures) (picked 3 ((c .before .before .before .before .before .before .before .before .before .before .is-word9) .ensures) (picked 4 ((c .before .before .before .before .before .before .before .before .before .before .before .before .before .is-word8) .ensures) (picked 5 ((c .before .before .before .before .before .before .before .before .before .before .before .before .before .before .before .before .is-word7) .ensures) (picked 6 ((c .before .before .before .before .before .before .before .before .before .before .before .before .before .before .before .before .before .before .before .is-word6) .ensures) (picked 7 ((c .before .before .before .before .before .before .before .before .before .before .before .before .before .before .before .before .before .before .before .before .before .before .is-word5) .ensures) (picked 8 ((c .before .before .before .before .before .before .before .before .before .before .before .before .before .before .before .before .before .before .before .before .before .before .before .before .before .is-word4) .ensures) (picked 9 ((c .before .before .before .before .before .before .before .before .before .before .before .before .before .before .before .before .before .before .before .before .before .before .before .before .before .before .before .before .is-word3) .ensures) (picked 10 ((c .before .before .before .before .before .before .before .before .before .before .before .before .before .before .before .before .before .before .before .before .before .before .before .before .before .before .before .before .before .before .before .is-word2) .ensures) (picked 11 ((c .before .before .before .before .before .before .before .before .before .before .before .before .before .before .before .before .before .before .before .before .before .before .before .before .before .before .before .before .before .before .before .before .before .before .is-word) .ensures) last ((c .before .before .before .before .before .before .before .before .before .before .before .before .before .before .before .before .before .before .before .before .before .before .before .before .before .before .before .before .before .before .before .before .before .pick) .ensures)) ((c .before .before .before .before .before .before .before .before .before .before .before .before .before .before .before .before .before .before .before .before .before .before .before .before .before .before .before .before .before .before .pick2) .ensures)) ((c .before .before .before .before .before .before .before .before .before .before .before .before .before .before .before .before .before .before .before .before .before .before .before .before .before .before .before .pick3) .ensures)) ((c .before .before .before .before .before .before .before .before .before .before .before .before .before .before .before .before .before .before .before .before .before .before .before .before .pick4) .ensures)) ((c .before .before .before .before .before .before .before .before .before .before .before .before .before .before .before .before .before .before .before .before .before .pick5) .ensures)) ((c .before .before .before .before .before .before .before .before .before .before .before .before .before .before .before .before .before .before .pick6) .ensures)) ((c .before .before .before .before .before .before .before .before .before .before .before .before .before .before .before .pick7) .ensures)) ((c .before .before .before .before .before .before .before .before .before .before .before .before .pick8) .ensures)) ((c .before .before .before .before .before .before .before .before .before .pick9) .ensures)) ((c .before .before .before .before .before .before .pick10) .ensures)) ((c .before .before .before .pick11) .ensures)) ((c .pick12) .ensures) ∙ sym (named ((c .before .before .before .before .before .before .before .before .before .before .before .before .before .before .before .before .before .before .before .before .before .before .before .before .before .before .before .before .before .before .before .before .before .before .before .before .before .args) .word .now))
+returns c =
+    let last : _≡_ {A = ℕ} 12 12 = refl in
+    let c11 = c .before .before .before in
+    let c10 = c11 .before .before .before in
+    let c9 = c10 .before .before .before in
+    let c8 = c9 .before .before .before in
+    let c7 = c8 .before .before .before in
+    let c6 = c7 .before .before .before in
+    let c5 = c6 .before .before .before in
+    let c4 = c5 .before .before .before in
+    let c3 = c4 .before .before .before in
+    let c2 = c3 .before .before .before in
+    let c1 = c2 .before .before .before in
+    let r1 = picked 11 (c1 .before .is-word .ensures) last (c1 .pick .ensures) in
+    let r2 = picked 10 (c2 .before .is-word2 .ensures) r1 (c2 .pick2 .ensures) in
+    let r3 = picked 9 (c3 .before .is-word3 .ensures) r2 (c3 .pick3 .ensures) in
+    let r4 = picked 8 (c4 .before .is-word4 .ensures) r3 (c4 .pick4 .ensures) in
+    let r5 = picked 7 (c5 .before .is-word5 .ensures) r4 (c5 .pick5 .ensures) in
+    let r6 = picked 6 (c6 .before .is-word6 .ensures) r5 (c6 .pick6 .ensures) in
+    let r7 = picked 5 (c7 .before .is-word7 .ensures) r6 (c7 .pick7 .ensures) in
+    let r8 = picked 4 (c8 .before .is-word8 .ensures) r7 (c8 .pick8 .ensures) in
+    let r9 = picked 3 (c9 .before .is-word9 .ensures) r8 (c9 .pick9 .ensures) in
+    let r10 = picked 2 (c10 .before .is-word10 .ensures) r9 (c10 .pick10 .ensures) in
+    let r11 = picked 1 (c11 .before .is-word11 .ensures) r10 (c11 .pick11 .ensures) in
+    let r12 = picked 0 (c .before .is-word12 .ensures) r11 (c .pick12 .ensures) in
+    r12 ∙ sym (named (c1 .before .before .before .before .args .word .now))
 
 pub item-named-spec : {M : Type 1} → statement M
 item-named-spec =

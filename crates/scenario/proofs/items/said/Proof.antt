@@ -29,7 +29,13 @@ low-word-requires c κs = search needs
 -- src/items.rt:163:9
 returns-3 : tie.Need-returns-3
 unfolding mostOf entryAt sortAt
-returns-3 c = let a = (c .before .before .before .before .args) in let f = fits (a .item) 2 (a .a) (a .b) (a .c) (a .d) ((c .before .if3) .taken) ((c .before .before .before .before) .pre .1) in let m0 : a .a ≤ 65535 = f .0 in let e0 : a .a % 65536 ≡ a .a = omega (arith, m0) in λ v p q s t. rw ((c .before .if3) .taken, (c .low-word) .ensures, e0, p)
+returns-3 c =
+    let a = (c .before .before .before .before .args) in
+    let f = fits (a .item) 2 (a .a) (a .b) (a .c) (a .d) ((c .before .if3) .taken)
+    ((c .before .before .before .before) .pre .1) in
+    let m0 : a .a ≤ 65535 = f .0 in
+    let e0 : a .a % 65536 ≡ a .a = omega (arith, m0) in
+    λ v p q s t. rw ((c .before .if3) .taken, (c .low-word) .ensures, e0, p)
 
 -- src/items.rt:166:31
 low-byte-requires : tie.Need-low-byte-requires
@@ -38,7 +44,13 @@ low-byte-requires c κs = search needs
 -- src/items.rt:166:9
 returns-4 : tie.Need-returns-4
 unfolding mostOf entryAt sortAt
-returns-4 c = let a = (c .before .before .before .before .before .args) in let f = fits (a .item) 3 (a .a) (a .b) (a .c) (a .d) ((c .before .if4) .taken) ((c .before .before .before .before .before) .pre .1) in let m0 : a .a ≤ 1 = f .0 in let e0 : a .a % 256 ≡ a .a = omega (arith, m0) in λ v p q s t. rw ((c .before .if4) .taken, (c .low-byte) .ensures, e0, p)
+returns-4 c =
+    let a = (c .before .before .before .before .before .args) in
+    let f = fits (a .item) 3 (a .a) (a .b) (a .c) (a .d) ((c .before .if4) .taken)
+    ((c .before .before .before .before .before) .pre .1) in
+    let m0 : a .a ≤ 1 = f .0 in
+    let e0 : a .a % 256 ≡ a .a = omega (arith, m0) in
+    λ v p q s t. rw ((c .before .if4) .taken, (c .low-byte) .ensures, e0, p)
 
 -- src/items.rt:169:27
 low-byte-requires-2 : tie.Need-low-byte-requires-2
@@ -51,7 +63,23 @@ low-byte-requires-3 c κs = search needs
 -- src/items.rt:169:9
 returns-5 : tie.Need-returns-5
 unfolding mostOf entryAt sortAt
-returns-5 c = let a = (c .before .before .before .before .before .before .before .args) in let f = fits (a .item) 4 (a .a) (a .b) (a .c) (a .d) ((c .before .before .if5) .taken) ((c .before .before .before .before .before .before .before) .pre .1) in let m0 : a .a ≤ 255 = f .0 in let e0 : a .a % 256 ≡ a .a = omega (arith, m0) in let m1 : a .b ≤ 255 = f .1 in let e1 : a .b % 256 ≡ a .b = omega (arith, m1) in λ v p q s t. rw ((c .before .before .if5) .taken, (c .before .low-byte2) .ensures, e0, (c .low-byte3) .ensures, e1, p, q)
+returns-5 c =
+    let a = (c .before .before .before .before .before .before .before .args) in
+    let f = fits (a .item) 4 (a .a) (a .b) (a .c) (a .d) ((c .before .before .if5) .taken)
+    ((c .before .before .before .before .before .before .before) .pre .1) in
+    let m0 : a .a ≤ 255 = f .0 in
+    let e0 : a .a % 256 ≡ a .a = omega (arith, m0) in
+    let m1 : a .b ≤ 255 = f .1 in
+    let e1 : a .b % 256 ≡ a .b = omega (arith, m1) in
+    λ v p q s t. rw (
+      (c .before .before .if5) .taken,
+      (c .before .low-byte2) .ensures,
+      e0,
+      (c .low-byte3) .ensures,
+      e1,
+      p,
+      q,
+    )
 
 -- src/items.rt:172:9
 returns-6 : tie.Need-returns-6

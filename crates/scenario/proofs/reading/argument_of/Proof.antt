@@ -33,7 +33,8 @@ tick-in-requires c κs = search needs
 -- src/reading.rt:196:9
 returns-3 : tie.Need-returns-3
 unfolding argumentOf
-returns-3 c = rw (ne-eqb _ _ ((c .before .before .if1) .left), eq-eqb _ _ ((c .before .if3) .taken), (c .tick-in) .ensures)
+returns-3 c =
+    rw (ne-eqb _ _ ((c .before .before .if1) .left), eq-eqb _ _ ((c .before .if3) .taken), (c .tick-in) .ensures)
 
 -- src/reading.rt:199:9
 kind-in-requires : tie.Need-kind-in-requires
@@ -42,7 +43,13 @@ kind-in-requires c κs = search needs
 -- src/reading.rt:199:9
 returns-4 : tie.Need-returns-4
 unfolding argumentOf
-returns-4 c = rw (ne-eqb _ _ ((c .before .before .before .if1) .left), ne-eqb _ _ ((c .before .before .if3) .left), eq-eqb _ _ ((c .before .if4) .taken), (c .kind-in) .ensures)
+returns-4 c =
+    rw (
+      ne-eqb _ _ ((c .before .before .before .if1) .left),
+      ne-eqb _ _ ((c .before .before .if3) .left),
+      eq-eqb _ _ ((c .before .if4) .taken),
+      (c .kind-in) .ensures,
+    )
 
 -- src/reading.rt:201:21
 most-of-requires : tie.Need-most-of-requires
@@ -55,7 +62,14 @@ number-in-requires c κs = search needs
 -- src/reading.rt:189:1
 returns-5 : tie.Need-returns-5
 unfolding argumentOf
-returns-5 c = rw (ne-eqb _ _ ((c .before .before .before .before .if1) .left), ne-eqb _ _ ((c .before .before .before .if3) .left), ne-eqb _ _ ((c .before .before .if4) .left), (c .number-in) .ensures, (c .before .most-of) .ensures)
+returns-5 c =
+    rw (
+      ne-eqb _ _ ((c .before .before .before .before .if1) .left),
+      ne-eqb _ _ ((c .before .before .before .if3) .left),
+      ne-eqb _ _ ((c .before .before .if4) .left),
+      (c .number-in) .ensures,
+      (c .before .most-of) .ensures,
+    )
 
 pub argument-of-spec : {M : Type 1} → statement M
 argument-of-spec =

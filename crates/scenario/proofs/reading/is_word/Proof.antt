@@ -12,7 +12,8 @@ use Rattle.scenario.proofs.reading.is_word.Reads as reads
 use Rattle.scenario.proofs.reading.is_word.Lts as lts
 
 abbrev Inv-loop : tie.InvT-loop
-Inv-loop word name i₀ i = (i ≤ length word) × (length word ≡ length name) × (areSame word name ≡ areSame (drop i word) (drop i name))
+Inv-loop word name i₀ i =
+    (i ≤ length word) × (length word ≡ length name) × (areSame word name ≡ areSame (drop i word) (drop i name))
 
 abbrev μ-loop : tie.MeasureT-loop
 μ-loop word name i₀ i = length word - i
@@ -35,7 +36,13 @@ shared-slice-read-if2-2 c = search needs
 
 -- src/reading.rt:90:13
 returns-2 : tie.Need-returns-2 Inv-loop μ-loop
-returns-2 c = let o = (c .before .before .before .before .loop) in let w = (c .before .before .before .before .before .before .args) .word .now in let n = (c .before .before .before .before .before .before .args) .name .now in let h : o .i < length w = search needs in let d : getD w (o .i) 0 ≢ getD n (o .i) 0 = search needs in sym (o .inv .2 ∙ same-off w n (o .i) h (omega arith) d)
+returns-2 c =
+    let o = (c .before .before .before .before .loop) in
+    let w = (c .before .before .before .before .before .before .args) .word .now in
+    let n = (c .before .before .before .before .before .before .args) .name .now in
+    let h : o .i < length w = search needs in
+    let d : getD w (o .i) 0 ≢ getD n (o .i) 0 = search needs in
+    sym (o .inv .2 ∙ same-off w n (o .i) h (omega arith) d)
 
 -- src/reading.rt:92:9
 add-i : tie.Need-add-i Inv-loop μ-loop
@@ -47,11 +54,22 @@ loop-less c = search needs
 
 -- src/reading.rt:88:5
 loop-again : tie.Need-loop-again Inv-loop μ-loop
-loop-again c = let o = (c .before .before .before .before .loop) in let w = (c .before .before .before .before .before .before .args) .word .now in let n = (c .before .before .before .before .before .before .args) .name .now in let h : o .i < length w = search needs in let e : getD w (o .i) 0 ≡ getD n (o .i) 0 = search needs in (search needs, o .inv .1, o .inv .2 ∙ same-on w n (o .i) h (omega arith) e)
+loop-again c =
+    let o = (c .before .before .before .before .loop) in
+    let w = (c .before .before .before .before .before .before .args) .word .now in
+    let n = (c .before .before .before .before .before .before .args) .name .now in
+    let h : o .i < length w = search needs in
+    let e : getD w (o .i) 0 ≡ getD n (o .i) 0 = search needs in
+    (search needs, o .inv .1, o .inv .2 ∙ same-on w n (o .i) h (omega arith) e)
 
 -- src/reading.rt:81:1
 returns-3 : tie.Need-returns-3 Inv-loop μ-loop
-returns-3 c = let o = (c .before .loop) in let w = (c .before .before .before .args) .word .now in let n = (c .before .before .before .args) .name .now in let h : length w ≤ o .i = search needs in sym (o .inv .2 ∙ same-out w n (o .i) h (omega arith))
+returns-3 c =
+    let o = (c .before .loop) in
+    let w = (c .before .before .before .args) .word .now in
+    let n = (c .before .before .before .args) .name .now in
+    let h : length w ≤ o .i = search needs in
+    sym (o .inv .2 ∙ same-out w n (o .i) h (omega arith))
 
 pub is-word-spec : {M : Type 1} → statement M
 is-word-spec =

@@ -31,7 +31,11 @@ one-requires c κs = search needs
 -- src/reading.rt:181:9
 returns : tie.Need-returns
 unfolding kindIn
-returns c = let w = (c .before .before .before .before .before .args) .word .now in let s : areSame w (codes "short") ≡ true = sym ((c .before .before .is-word) .ensures) ∙ ((c .before .if1) .taken) in rw (s, (c .one) .ensures)
+returns c =
+    let w = (c .before .before .before .before .before .args) .word .now in
+    let s : areSame w (codes "short") ≡ true = sym ((c .before .before .is-word) .ensures)
+    ∙ ((c .before .if1) .taken) in
+    rw (s, (c .one) .ensures)
 
 -- src/reading.rt:183:22
 slice-aggregate-is-word-2 : tie.Need-slice-aggregate-is-word-2
@@ -52,12 +56,23 @@ one-requires-2 c κs = search needs
 -- src/reading.rt:184:9
 returns-2 : tie.Need-returns-2
 unfolding kindIn
-returns-2 c = let w = (c .before .before .before .before .before .before .before .before .args) .word .now in let s : areSame w (codes "short") ≡ false = sym ((c .before .before .before .before .before .is-word) .ensures) ∙ ((c .before .before .before .before .if1) .left) in let l : areSame w (codes "long") ≡ true = sym ((c .before .before .is-word2) .ensures) ∙ ((c .before .if2) .taken) in rw (s, l, (c .one2) .ensures)
+returns-2 c =
+    let w = (c .before .before .before .before .before .before .before .before .args) .word .now in
+    let s : areSame w (codes "short") ≡ false = sym ((c .before .before .before .before .before .is-word) .ensures)
+    ∙ ((c .before .before .before .before .if1) .left) in
+    let l : areSame w (codes "long") ≡ true = sym ((c .before .before .is-word2) .ensures)
+    ∙ ((c .before .if2) .taken) in
+    rw (s, l, (c .one2) .ensures)
 
 -- src/reading.rt:177:1
 returns-3 : tie.Need-returns-3
 unfolding kindIn
-returns-3 c = let w = (c .before .before .before .before .before .before .before .args) .word .now in let s : areSame w (codes "short") ≡ false = sym ((c .before .before .before .before .is-word) .ensures) ∙ ((c .before .before .before .if1) .left) in let l : areSame w (codes "long") ≡ false = sym ((c .before .is-word2) .ensures) ∙ ((c .if2) .left) in rw (s, l)
+returns-3 c =
+    let w = (c .before .before .before .before .before .before .before .args) .word .now in
+    let s : areSame w (codes "short") ≡ false = sym ((c .before .before .before .before .is-word) .ensures)
+    ∙ ((c .before .before .before .if1) .left) in
+    let l : areSame w (codes "long") ≡ false = sym ((c .before .is-word2) .ensures) ∙ ((c .if2) .left) in
+    rw (s, l)
 
 pub kind-in-spec : {M : Type 1} → statement M
 kind-in-spec =

@@ -29,12 +29,24 @@ cast-result c = search needs
 -- src/reading.rt:128:9
 returns-4 : tie.Need-returns-4
 unfolding mostOf
-returns-4 c = rw (ne-eqb _ _ ((c .before .before .before .if1) .left), ((c .before .before .if2) .left), ne-eqb _ _ ((c .before .if3) .left), eq-eqb _ _ ((c .if4) .taken))
+returns-4 c =
+    rw (
+      ne-eqb _ _ ((c .before .before .before .if1) .left),
+      ((c .before .before .if2) .left),
+      ne-eqb _ _ ((c .before .if3) .left),
+      eq-eqb _ _ ((c .if4) .taken),
+    )
 
 -- src/reading.rt:115:1
 returns-5 : tie.Need-returns-5
 unfolding mostOf
-returns-5 c = rw (ne-eqb _ _ ((c .before .before .before .if1) .left), ((c .before .before .if2) .left), ne-eqb _ _ ((c .before .if3) .left), ne-eqb _ _ ((c .if4) .left))
+returns-5 c =
+    rw (
+      ne-eqb _ _ ((c .before .before .before .if1) .left),
+      ((c .before .before .if2) .left),
+      ne-eqb _ _ ((c .before .if3) .left),
+      ne-eqb _ _ ((c .if4) .left),
+    )
 
 pub most-of-spec : {M : Type 1} → statement M
 most-of-spec = tie.close (tie.spec returns returns-2 returns-3 cast-result returns-4 returns-5)

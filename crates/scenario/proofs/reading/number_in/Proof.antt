@@ -17,7 +17,9 @@ use Rattle.scenario.proofs.reading.digit_value.Reads as digit-value-rea
 use Rattle.scenario.proofs.reading.is_digit.Reads as is-digit-reads
 
 abbrev Inv-loop : tie.InvT-loop
-Inv-loop word most value₀ i₀ value i = (i ≤ length word) × (length word ≢ 0) × (value ≤ most) × (areDigits word ≡ areDigits (drop i word)) × (valueBehind 0 word ≡ valueBehind value (drop i word))
+Inv-loop word most value₀ i₀ value i =
+    (i ≤ length word) × (length word ≢ 0) × (value ≤ most) × (areDigits word ≡ areDigits (drop i word)) ×
+    (valueBehind 0 word ≡ valueBehind value (drop i word))
 
 abbrev μ-loop : tie.MeasureT-loop
 μ-loop word most value₀ i₀ value i = length word - i
@@ -40,7 +42,13 @@ is-digit-requires c κs = search needs
 
 -- src/reading.rt:145:13
 returns-2 : tie.Need-returns-2 Inv-loop μ-loop
-returns-2 c = let o = (c .before .before .before .before .loop) in let w = (c .before .before .before .before .before .before .before .args) .word .now in let h : o .i < length w = search needs in let b : isDigit (getD w (o .i) 0) ≡ false = sym ((c .before .is-digit) .ensures) ∙ not-true _ ((c .if2) .taken) in sym (number-undigit ((c .before .before .before .before .before .before .before .args) .most) w (o .inv .3 ∙ digits-off w (o .i) h b))
+returns-2 c =
+    let o = (c .before .before .before .before .loop) in
+    let w = (c .before .before .before .before .before .before .before .args) .word .now in
+    let h : o .i < length w = search needs in
+    let b : isDigit (getD w (o .i) 0) ≡ false = sym ((c .before .is-digit) .ensures) ∙ not-true _ ((c .if2) .taken) in
+    sym
+    (number-undigit ((c .before .before .before .before .before .before .before .args) .most) w (o .inv .3 ∙ digits-off w (o .i) h b))
 
 -- src/reading.rt:147:17
 mul-value : tie.Need-mul-value Inv-loop μ-loop
@@ -56,7 +64,14 @@ add-value c = search needs
 
 -- src/reading.rt:149:13
 returns-3 : tie.Need-returns-3 Inv-loop μ-loop
-returns-3 c = let o = (c .before .before .before .before .before .before .loop) in let w = (c .before .before .before .before .before .before .before .before .before .args) .word .now in let h : o .i < length w = search needs in let v = o .inv .4 ∙ value-on w (o .i) h (o .value) in let m = value-least (10 * o .value + (getD w (o .i) 0 - 48)) (drop (o .i + 1) w) in sym (number-large ((c .before .before .before .before .before .before .before .before .before .args) .most) w (omega (arith, v, m, (c .before .digit-value) .ensures .0, ((c .if3) .taken))))
+returns-3 c =
+    let o = (c .before .before .before .before .before .before .loop) in
+    let w = (c .before .before .before .before .before .before .before .before .before .args) .word .now in
+    let h : o .i < length w = search needs in
+    let v = o .inv .4 ∙ value-on w (o .i) h (o .value) in
+    let m = value-least (10 * o .value + (getD w (o .i) 0 - 48)) (drop (o .i + 1) w) in
+    sym
+    (number-large ((c .before .before .before .before .before .before .before .before .before .args) .most) w (omega (arith, v, m, (c .before .digit-value) .ensures .0, ((c .if3) .taken))))
 
 -- src/reading.rt:151:9
 add-i : tie.Need-add-i Inv-loop μ-loop
@@ -68,7 +83,18 @@ loop-less c = search needs
 
 -- src/reading.rt:142:5
 loop-again : tie.Need-loop-again Inv-loop μ-loop
-loop-again c = let o = (c .before .before .before .before .before .before .loop) in let w = (c .before .before .before .before .before .before .before .before .before .args) .word .now in let h : o .i < length w = search needs in let b : isDigit (getD w (o .i) 0) ≡ true = sym ((c .before .before .before .is-digit) .ensures) ∙ not-false _ ((c .before .before .if2) .left) in (search needs, o .inv .1, search needs, o .inv .3 ∙ digits-on w (o .i) h b, rw ((c .before .digit-value) .ensures .0) (o .inv .4 ∙ value-on w (o .i) h (o .value)))
+loop-again c =
+    let o = (c .before .before .before .before .before .before .loop) in
+    let w = (c .before .before .before .before .before .before .before .before .before .args) .word .now in
+    let h : o .i < length w = search needs in
+    let b : isDigit (getD w (o .i) 0) ≡ true = sym ((c .before .before .before .is-digit) .ensures)
+    ∙ not-false _ ((c .before .before .if2) .left) in (
+      search needs,
+      o .inv .1,
+      search needs,
+      o .inv .3 ∙ digits-on w (o .i) h b,
+      rw ((c .before .digit-value) .ensures .0) (o .inv .4 ∙ value-on w (o .i) h (o .value)),
+    )
 
 -- src/reading.rt:155:16
 cast-t15 : tie.Need-cast-t15 Inv-loop μ-loop
@@ -76,7 +102,13 @@ cast-t15 c = search needs
 
 -- src/reading.rt:134:1
 returns-4 : tie.Need-returns-4 Inv-loop μ-loop
-returns-4 c = let o = (c .before .loop) in let w = (c .before .before .before .before .args) .word .now in let h : length w ≤ o .i = search needs in let v = o .inv .4 ∙ value-out w (o .i) h (o .value) in rw (← v) (sym (number-good ((c .before .before .before .before .args) .most) w (o .inv .1) (o .inv .3 ∙ digits-out w (o .i) h) (omega (arith, v))))
+returns-4 c =
+    let o = (c .before .loop) in
+    let w = (c .before .before .before .before .args) .word .now in
+    let h : length w ≤ o .i = search needs in
+    let v = o .inv .4 ∙ value-out w (o .i) h (o .value) in
+    rw (← v)
+    (sym (number-good ((c .before .before .before .before .args) .most) w (o .inv .1) (o .inv .3 ∙ digits-out w (o .i) h) (omega (arith, v))))
 
 pub number-in-spec : {M : Type 1} → statement M
 number-in-spec =

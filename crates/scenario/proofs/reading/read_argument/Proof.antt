@@ -35,7 +35,16 @@ argument-of-requires c κs = search needs
 
 -- src/reading.rt:205:1
 returns : tie.Need-returns
-returns c = let l = (c .before .before .before .before .before .args) .l .now in let at = (c .before .before .before .before .before .args) .at in let e = (c .before .before .before .blanks-end) .ensures .0 in let f = (c .before .before .word-end) .ensures .0 in record { argument = rw ((c .argument-of) .ensures, word-at l at _ _ e f); rest = behind-at l at _ _ e f; inside = (c .before .before .word-end) .ensures .1 }
+returns c =
+    let l = (c .before .before .before .before .before .args) .l .now in
+    let at = (c .before .before .before .before .before .args) .at in
+    let e = (c .before .before .before .blanks-end) .ensures .0 in
+    let f = (c .before .before .word-end) .ensures .0 in
+    record {
+      argument = rw ((c .argument-of) .ensures, word-at l at _ _ e f);
+      rest = behind-at l at _ _ e f;
+      inside = (c .before .before .word-end) .ensures .1;
+    }
 
 pub read-argument-spec : {M : Type 1} → statement M
 read-argument-spec =

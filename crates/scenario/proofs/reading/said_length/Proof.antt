@@ -24,7 +24,14 @@ find-requires c κs = search needs
 -- src/reading.rt:39:1
 returns : tie.Need-returns
 unfolding said slice
-returns c = let l = (c .before .before .before .args) .line .now in let m = (c .before .unended-length) .result in let z : (c .find) .result ≡ 0 + indexOf hash (take m l) = (c .find) .ensures .0 in let e : (c .find) .result ≡ indexOf hash (take m l) = omega (arith, z) in (sym (take-take ((c .find) .result) m l ((c .find) .ensures .1)) ∙ rw (e, (c .before .unended-length) .ensures .0), search needs)
+returns c =
+    let l = (c .before .before .before .args) .line .now in
+    let m = (c .before .unended-length) .result in
+    let z : (c .find) .result ≡ 0 + indexOf hash (take m l) = (c .find) .ensures .0 in
+    let e : (c .find) .result ≡ indexOf hash (take m l) = omega (arith, z) in (
+      sym (take-take ((c .find) .result) m l ((c .find) .ensures .1)) ∙ rw (e, (c .before .unended-length) .ensures .0),
+      search needs,
+    )
 
 pub said-length-spec : {M : Type 1} → statement M
 said-length-spec = tie.close (tie.spec unended-length-requires find-requires returns)

@@ -49,7 +49,13 @@ number-in-requires c κs = search needs
 -- src/reading.rt:165:1
 returns-3 : tie.Need-returns-3
 unfolding tickIn
-returns-3 c = rw (eq-eqb _ _ ((c .before .before .before .if2) .left), (c .number-in) .ensures, (c .before .most-of) .ensures, tail-all ((c .before .before .before .before .before .before .before .args) .word .now))
+returns-3 c =
+    rw (
+      eq-eqb _ _ ((c .before .before .before .if2) .left),
+      (c .number-in) .ensures,
+      (c .before .most-of) .ensures,
+      tail-all ((c .before .before .before .before .before .before .before .args) .word .now),
+    )
 
 pub tick-in-spec : {M : Type 1} → statement M
 tick-in-spec =

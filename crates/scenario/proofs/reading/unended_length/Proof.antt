@@ -12,7 +12,9 @@ use Rattle.scenario.proofs.reading.unended_length.Lts as lts
 -- src/reading.rt:30:9
 returns : tie.Need-returns
 unfolding unendedLength
-returns c = let e : length ((c .before .args) .line .now) ≡ 0 = search needs in (rw (e, List·getD-eq-default ((c .before .args) .line .now) 0 {n = 0} (search needs)), search needs)
+returns c =
+    let e : length ((c .before .args) .line .now) ≡ 0 = search needs in
+    (rw (e, List·getD-eq-default ((c .before .args) .line .now) 0 {n = 0} (search needs)), search needs)
 
 -- src/reading.rt:32:13
 sub-if2 : tie.Need-sub-if2

@@ -32,7 +32,13 @@ is-blank-requires c κs = search needs
 
 -- src/reading.rt:74:13
 returns : tie.Need-returns Inv-loop μ-loop
-returns c = let o = (c .before .before .before .before .loop) in let l = (c .before .before .before .before .before .before .args) .l .now in let h : o .i < length l = search needs in let b : isBlank (getD l (o .i) 0) ≡ true = sym ((c .before .is-blank) .ensures) ∙ ((c .if1) .taken) in let z = letters-off l (o .i) h b in (omega (arith, o .inv .2, z), search needs)
+returns c =
+    let o = (c .before .before .before .before .loop) in
+    let l = (c .before .before .before .before .before .before .args) .l .now in
+    let h : o .i < length l = search needs in
+    let b : isBlank (getD l (o .i) 0) ≡ true = sym ((c .before .is-blank) .ensures) ∙ ((c .if1) .taken) in
+    let z = letters-off l (o .i) h b in
+    (omega (arith, o .inv .2, z), search needs)
 
 -- src/reading.rt:76:9
 add-i : tie.Need-add-i Inv-loop μ-loop
@@ -44,11 +50,22 @@ loop-less c = search needs
 
 -- src/reading.rt:72:5
 loop-again : tie.Need-loop-again Inv-loop μ-loop
-loop-again c = let o = (c .before .before .before .before .loop) in let l = (c .before .before .before .before .before .before .args) .l .now in let h : o .i < length l = search needs in let b : isBlank (getD l (o .i) 0) ≡ false = sym ((c .before .is-blank) .ensures) ∙ ((c .if1) .left) in let z = letters-on l (o .i) h b in (omega arith, search needs, omega (arith, o .inv .2, z))
+loop-again c =
+    let o = (c .before .before .before .before .loop) in
+    let l = (c .before .before .before .before .before .before .args) .l .now in
+    let h : o .i < length l = search needs in
+    let b : isBlank (getD l (o .i) 0) ≡ false = sym ((c .before .is-blank) .ensures) ∙ ((c .if1) .left) in
+    let z = letters-on l (o .i) h b in
+    (omega arith, search needs, omega (arith, o .inv .2, z))
 
 -- src/reading.rt:67:1
 returns-2 : tie.Need-returns-2 Inv-loop μ-loop
-returns-2 c = let o = (c .before .loop) in let l = (c .before .before .before .args) .l .now in let h : length l ≤ o .i = search needs in let z = letters-out l (o .i) h in (omega (arith, o .inv .2, z), search needs)
+returns-2 c =
+    let o = (c .before .loop) in
+    let l = (c .before .before .before .args) .l .now in
+    let h : length l ≤ o .i = search needs in
+    let z = letters-out l (o .i) h in
+    (omega (arith, o .inv .2, z), search needs)
 
 pub word-end-spec : {M : Type 1} → statement M
 word-end-spec =
