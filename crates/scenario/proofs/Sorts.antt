@@ -96,9 +96,8 @@ unfolding argumentOf mostOf
 argument-small sort w = go (sort is noMore) (sort is aTick) (sort is aKind) refl refl refl
   where
     go : (a b c : Bool) → (sort is noMore) ≡ a → (sort is aTick) ≡ b → (sort is aKind) ≡ c
-        →
-        (if a then (if length w is 0 then one 0 else notOne) else if b then tickIn w else if c then kindIn w else numberIn (mostOf sort) w)
-        .value ≤ mostOf sort
+        → (if a then (if length w is 0 then one 0 else notOne) else if b then tickIn w else if c then kindIn w
+            else numberIn (mostOf sort) w) .value ≤ mostOf sort
     go true b c e f g = let n = none-small w in omega (arith, n)
     go false true c e f g = rw (eqb-true sort aTick f) (tick-small w)
     go false false true e f g = rw (eqb-true sort aKind g) (kind-small w)

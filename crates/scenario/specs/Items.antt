@@ -21,8 +21,8 @@ use Rattle.scenario.specs.declared.Item.the-variants.{Blank, Processors,
 abbrev pub unknown : ℕ
 unknown = 1
 
--- ---- the sorts of word behind an item's name: no word more, a number, a tick, a kind of resource. The number of a sort
--- is also the reason of a line where a word is not of it
+-- ---- the sorts of word behind an item's name: no word more, a number, a tick, a kind of resource. The number of a
+-- sort is also the reason of a line where a word is not of it
 abbrev pub noMore : ℕ
 noMore = 2
 

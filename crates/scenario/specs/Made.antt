@@ -51,7 +51,7 @@ unfoldable pub eventsSaid : List Item → List Event
 eventsSaid [] = []
 eventsSaid (item ∷ items) = eventsWith item (eventsSaid items)
 
--- ---- the blocks that items write, from a draft on, up to the first that is faulty or refused; and whether there is none
+-- ---- the blocks that items write, from a draft on, up to the first that is faulty or refused; and whether none is
 pub record Blocks : Type 0 where
   pub all : Bool
   pub blocks : List (List ℕ)

@@ -60,21 +60,16 @@ item-behind-requires c κs = search needs
 returns-2 : tie.Need-returns-2
 unfolding itemIn
 returns-2 c =
-    let l = (c .before .before .before .before .before .before .before .args) .l .now in
-    let b = (c .before .before .before .before .before .blanks-end) .ensures .0 in
-    let w = (c .before .before .before .before .word-end) .ensures .0 in
-    let n = word-length l 0 ((c .before .before .before .before .before .blanks-end) .result)
-    ((c .before .before .before .before .word-end) .result) b w
-    ((c .before .before .before .before .word-end) .ensures .1) in
-    let d : (length (firstWord l) is 0) ≡ false = ne-eqb (length (firstWord l)) 0
-    (λ z. (c .before .before .before .if1) .left (omega (arith, n, z, w))) in
-    rw (
-      d,
-      (c .item-behind) .ensures,
-      (c .before .item-named) .ensures,
-      word-at l 0 ((c .before .before .before .before .before .blanks-end) .result) ((c .before .before .before .before .word-end) .result) b w,
-      behind-at l 0 ((c .before .before .before .before .before .blanks-end) .result) ((c .before .before .before .before .word-end) .result) b w,
-    )
+    let worded = c .before .before .before .before in
+    let l = worded .before .before .before .args .l .now in
+    let from = worded .before .blanks-end .result in
+    let to = worded .word-end .result in
+    let b = worded .before .blanks-end .ensures .0 in
+    let w = worded .word-end .ensures .0 in
+    let n = word-length l 0 from to b w (worded .word-end .ensures .1) in
+    let d : (length (firstWord l) is 0) ≡ false =
+        ne-eqb (length (firstWord l)) 0 (λ z. c .before .before .before .if1 .left (omega (arith, n, z, w))) in
+    rw (d, c .item-behind .ensures, c .before .item-named .ensures, word-at l 0 from to b w, behind-at l 0 from to b w)
 
 pub item-in-spec : {M : Type 1} → statement M
 item-in-spec =

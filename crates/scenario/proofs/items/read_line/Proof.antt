@@ -17,7 +17,8 @@ said-length-requires c κs = search needs
 slice-aggregate-item-in : tie.Need-slice-aggregate-item-in
 slice-aggregate-item-in c =
     sym
-    (length-take-le ((c .before .said-length) .result) ((c .before .before .before .args) .line .now) ((c .before .said-length) .ensures .1))
+    (length-take-le (c .before .said-length .result) (c .before .before .before .args .line .now)
+    (c .before .said-length .ensures .1))
 
 -- src/items.rt:231:5
 item-in-requires : tie.Need-item-in-requires

@@ -48,7 +48,8 @@ returns-2 c =
     let h : o .i < length w = search needs in
     let b : isDigit (getD w (o .i) 0) ≡ false = sym ((c .before .is-digit) .ensures) ∙ not-true _ ((c .if2) .taken) in
     sym
-    (number-undigit ((c .before .before .before .before .before .before .before .args) .most) w (o .inv .3 ∙ digits-off w (o .i) h b))
+    (number-undigit (c .before .before .before .before .before .before .before .args .most) w
+    (o .inv .3 ∙ digits-off w (o .i) h b))
 
 -- src/reading.rt:147:17
 mul-value : tie.Need-mul-value Inv-loop μ-loop
@@ -71,7 +72,8 @@ returns-3 c =
     let v = o .inv .4 ∙ value-on w (o .i) h (o .value) in
     let m = value-least (10 * o .value + (getD w (o .i) 0 - 48)) (drop (o .i + 1) w) in
     sym
-    (number-large ((c .before .before .before .before .before .before .before .before .before .args) .most) w (omega (arith, v, m, (c .before .digit-value) .ensures .0, ((c .if3) .taken))))
+    (number-large (c .before .before .before .before .before .before .before .before .before .args .most) w
+    (omega (arith, v, m, c .before .digit-value .ensures .0, c .if3 .taken)))
 
 -- src/reading.rt:151:9
 add-i : tie.Need-add-i Inv-loop μ-loop
@@ -108,7 +110,8 @@ returns-4 c =
     let h : length w ≤ o .i = search needs in
     let v = o .inv .4 ∙ value-out w (o .i) h (o .value) in
     rw (← v)
-    (sym (number-good ((c .before .before .before .before .args) .most) w (o .inv .1) (o .inv .3 ∙ digits-out w (o .i) h) (omega (arith, v))))
+    (sym (number-good (c .before .before .before .before .args .most) w (o .inv .1)
+    (o .inv .3 ∙ digits-out w (o .i) h) (omega (arith, v))))
 
 pub number-in-spec : {M : Type 1} → statement M
 number-in-spec =
