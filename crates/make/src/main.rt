@@ -1,5 +1,5 @@
-// The maker of block files: a scenario from standard input, the blocks of its file to standard output. What is wrong with
-// the scenario goes to standard error, and ends the output.
+// The maker of block files: a scenario from standard input, the blocks of its file to standard output. What is wrong
+// with the scenario goes to standard error, and ends the output.
 mod faults;
 
 use blocks::Block;
@@ -68,7 +68,9 @@ fn take_line(making: Making, line: &[u8]) -> Making {
 }
 
 // Takes each line of which the line feed came.
-fn take_lines(begun: Making, text: &[u8]) -> Rest {
+fn take_lines(begun: Making, text: &[u8]) -> Rest
+    ensures { λ r. ⌜ r .at ≤ length (now (text .entry)) ⌝ }
+{
     let mut making = begun;
     let mut at = 0;
     while at < text.len() && !making.over {
