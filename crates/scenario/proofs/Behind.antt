@@ -1,22 +1,21 @@
 -- What stands behind a name, word after word: the rows of what is wrong, and the item. Assumes nothing.
-use Prim.Native.Nat.{ℕ, _<_, _≤_}
+use Prim.Native.Nat.{ℕ, _<_}
 use mathlib.Core.Path.{_≡_, refl, sym, ap, _∙_}
 use mathlib.Core.Bool.{Bool, true, false, not}
 use mathlib.Core.List.{List}
 use mathlib.Core.Logic.{_≢_}
 use native.Mathlib.Omega.{arith}
 use lib.Dec.{leb}
-use lib.ListN.{length, drop}
+use lib.ListN.{drop}
 use borrow.Author.Tests.{leb-false, eq-eqb, ne-eqb}
 use Rattle.search.specs.Words.{if_then_else_, _is_}
 use Rattle.search.specs.Rows.{firstOf}
-use Rattle.scenario.specs.Words.{firstWord, behind, word}
-use Rattle.scenario.specs.Items.{unknown, noMore, mostOf, argumentOf, itemCount, entryAt, sortAt, argumentAt, wrongRows, itemBehind}
+use Rattle.scenario.specs.Words.{behind, word}
+use Rattle.scenario.specs.Items.{unknown, noMore, itemCount, entryAt, sortAt, argumentAt, wrongRows, itemBehind}
 use Rattle.scenario.specs.Reads.{IsRead, Fit, formOf}
 use Rattle.scenario.specs.declared.Argument.{Argument}
 use Rattle.scenario.specs.declared.Form.{Form}
 use Rattle.scenario.specs.declared.Read.{Read}
-use Rattle.scenario.specs.declared.Item.{Item}
 use Rattle.scenario.specs.declared.Item.the-variants.{Wrong}
 use Rattle.scenario.proofs.Sorts.{argument-small, fifth-none}
 

@@ -1,10 +1,9 @@
 -- The table of items by its places, and the values of the words behind a name. Assumes nothing.
-use Prim.Native.Nat.{ℕ, zero, suc, _<_, _≤_}
+use Prim.Native.Nat.{ℕ, zero, suc, _%_, _<_, _≤_}
 use mathlib.Core.Path.{_≡_, refl, sym, subst, _∙_}
-use mathlib.Core.Bool.{Bool, true, false, _||_}
-use mathlib.Core.List.{List, [], _∷_, map}
+use mathlib.Core.Bool.{Bool, true, false}
+use mathlib.Core.List.{List, map}
 use native.Mathlib.Omega.{arith}
-use lib.Dec.{leb, eqb}
 use lib.ListN.{length, getD, drop, replicate, List·getD-map, List·getD-eq-default}
 use borrow.Author.Tests.{eqb-true}
 use Rattle.search.specs.Words.{if_then_else_, _is_}
@@ -97,7 +96,7 @@ argument-small sort w = go (sort is noMore) (sort is aTick) (sort is aKind) refl
   where
     go : (a b c : Bool) → (sort is noMore) ≡ a → (sort is aTick) ≡ b → (sort is aKind) ≡ c
         → (if a then (if length w is 0 then one 0 else notOne) else if b then tickIn w else if c then kindIn w
-            else numberIn (mostOf sort) w) .value ≤ mostOf sort
+        else numberIn (mostOf sort) w) .value ≤ mostOf sort
     go true b c e f g = let n = none-small w in omega (arith, n)
     go false true c e f g = rw (eqb-true sort aTick f) (tick-small w)
     go false false true e f g = rw (eqb-true sort aKind g) (kind-small w)
@@ -116,6 +115,15 @@ pub fifth-none : (i : ℕ) → sortAt i 4 ≡ noMore
 unfolding sortAt entryAt fifthIn
 fifth-none i = sym (List·getD-map fifthIn items i noEntry) ∙ same-places itemCount i noMore
 
--- ---- values that fit an item, told as a number
+-- ---- values that fit an item, told as a number; and a byte or a word of one that is no larger
+pub byte-kept : (v : ℕ) → v ≤ 255 → v % 256 ≡ v
+byte-kept v h = omega arith
+
+pub kind-byte : (v : ℕ) → v ≤ long → v ≤ 255
+kind-byte v h = omega arith
+
+pub word-kept : (v : ℕ) → v ≤ 65535 → v % 65536 ≡ v
+word-kept v h = omega arith
+
 pub fits : (i j a b c d : ℕ) → i ≡ j → Fit i a b c d → Fit j a b c d
 fits i j a b c d e f = subst (λ k. Fit k a b c d) e f

@@ -21,6 +21,13 @@ use Rattle.scenario.specs.declared.Draft.{Draft}
 use Rattle.scenario.specs.declared.Told.the-variants.{Written, Refused}
 use Rattle.scenario.specs.declared.Taken.{Taken}
 
+-- ---- an item of the set-up: the next draft is of no account where the item is barred
+pub settled-same : (d : Draft) (reason : ℕ) (bars : Bool) (next other : Draft) → (bars ≡ false → next ≡ other)
+    → settled d reason bars next ≡ settled d reason bars other
+unfolding settled
+settled-same d reason true next other h = refl
+settled-same d reason false next other h = rw (h refl)
+
 -- ---- an event and `block`, where the tests are known
 module _ (d : Draft) (out : List ℕ) where
   -- the first event ends the set-up

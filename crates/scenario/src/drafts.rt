@@ -90,32 +90,33 @@ fn filling(draft: Draft, index: u64, events: Events) -> Draft
 }
 
 // ---- the items of the set-up
-fn take_processors(draft: Draft, n: u32) -> Taken
-    ensures { λ r. ⌜ r ≡ settled draft twice (draft .sized) (sizedBy draft n) ⌝ }
+// An item of the set-up, which gives the next draft where it comes before the set-up's end and nothing bars it.
+fn settle(draft: Draft, reason: u8, bars: bool, next: Draft) -> Taken
+    ensures { λ r. ⌜ r ≡ settled draft reason bars next ⌝ }
 {
     if draft.index != 0 {
         return faulty(draft, Item::LATE);
     }
-    if draft.sized {
-        return faulty(draft, Item::TWICE);
+    if bars {
+        return faulty(draft, reason);
     }
+    kept(next)
+}
+
+fn take_processors(draft: Draft, n: u32) -> Taken
+    ensures { λ r. ⌜ r ≡ settled draft twice (draft .sized) (sizedBy draft n) ⌝ }
+{
     let mut next = with_set_up(draft, with_processors(draft.setup, n as usize));
     next.sized = true;
-    kept(next)
+    settle(draft, Item::TWICE, draft.sized, next)
 }
 
 fn take_start(draft: Draft, start: u32) -> Taken
     ensures { λ r. ⌜ r ≡ settled draft twice (draft .started) (startedAt draft start) ⌝ }
 {
-    if draft.index != 0 {
-        return faulty(draft, Item::LATE);
-    }
-    if draft.started {
-        return faulty(draft, Item::TWICE);
-    }
     let mut next = with_set_up(draft, with_start(draft.setup, start));
     next.started = true;
-    kept(next)
+    settle(draft, Item::TWICE, draft.started, next)
 }
 
 fn take_task(draft: Draft, period: u16) -> Taken
@@ -123,13 +124,8 @@ fn take_task(draft: Draft, period: u16) -> Taken
         (withSetUp draft (withTask (draft .setup) period)) ⌝ }
 {
     let setup = draft.setup;
-    if draft.index != 0 {
-        return faulty(draft, Item::LATE);
-    }
-    if SetUp::TASKS <= setup.tasks {
-        return faulty(draft, Item::FULL);
-    }
-    kept(with_set_up(draft, with_task(setup, period)))
+    let next = with_set_up(draft, with_task(setup, period));
+    settle(draft, Item::FULL, SetUp::TASKS <= setup.tasks, next)
 }
 
 fn take_resource(draft: Draft, kind: u8) -> Taken
@@ -137,13 +133,8 @@ fn take_resource(draft: Draft, kind: u8) -> Taken
         (withSetUp draft (withResource (draft .setup) kind)) ⌝ }
 {
     let setup = draft.setup;
-    if draft.index != 0 {
-        return faulty(draft, Item::LATE);
-    }
-    if SetUp::RESOURCES <= setup.resources {
-        return faulty(draft, Item::FULL);
-    }
-    kept(with_set_up(draft, with_resource(setup, kind)))
+    let next = with_set_up(draft, with_resource(setup, kind));
+    settle(draft, Item::FULL, SetUp::RESOURCES <= setup.resources, next)
 }
 
 fn take_pair(draft: Draft, outer: u8, inner: u8) -> Taken
@@ -151,13 +142,8 @@ fn take_pair(draft: Draft, outer: u8, inner: u8) -> Taken
         (withSetUp draft (withPair (draft .setup) outer inner)) ⌝ }
 {
     let setup = draft.setup;
-    if draft.index != 0 {
-        return faulty(draft, Item::LATE);
-    }
-    if SetUp::PAIRS <= setup.pairs {
-        return faulty(draft, Item::FULL);
-    }
-    kept(with_set_up(draft, with_pair(setup, outer, inner)))
+    let next = with_set_up(draft, with_pair(setup, outer, inner));
+    settle(draft, Item::FULL, SetUp::PAIRS <= setup.pairs, next)
 }
 
 // ---- the blocks

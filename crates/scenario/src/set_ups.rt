@@ -1,4 +1,4 @@
-// What an item gives to a set-up.
+// What an item gives to a set-up; where there is no room for it, the set-up stays as it is.
 use input::SetUp;
 ghost use mathlib.Core.Path.{_≡_};
 ghost use Prim.Native.Nat.{_<_};
@@ -22,33 +22,39 @@ pub fn with_start(setup: SetUp, start: u32) -> SetUp
 }
 
 pub fn with_task(setup: SetUp, period: u16) -> SetUp
-    requires { ⌜ setup .tasks < mostTasks ⌝ }
-    ensures { λ r. ⌜ r ≡ withTask setup period ⌝ }
+    ensures { λ r. ⌜ (setup .tasks < mostTasks → r ≡ withTask setup period) ⌝ }
 {
     let mut next = setup;
     let t = setup.tasks;
+    if SetUp::TASKS <= t {
+        return setup;
+    }
     next.periods[t] = period;
     next.tasks = t + 1;
     next
 }
 
 pub fn with_resource(setup: SetUp, kind: u8) -> SetUp
-    requires { ⌜ setup .resources < mostResources ⌝ }
-    ensures { λ r. ⌜ r ≡ withResource setup kind ⌝ }
+    ensures { λ r. ⌜ (setup .resources < mostResources → r ≡ withResource setup kind) ⌝ }
 {
     let mut next = setup;
     let r = setup.resources;
+    if SetUp::RESOURCES <= r {
+        return setup;
+    }
     next.kinds[r] = kind;
     next.resources = r + 1;
     next
 }
 
 pub fn with_pair(setup: SetUp, outer: u8, inner: u8) -> SetUp
-    requires { ⌜ setup .pairs < mostPairs ⌝ }
-    ensures { λ r. ⌜ r ≡ withPair setup outer inner ⌝ }
+    ensures { λ r. ⌜ (setup .pairs < mostPairs → r ≡ withPair setup outer inner) ⌝ }
 {
     let mut next = setup;
     let i = setup.pairs;
+    if SetUp::PAIRS <= i {
+        return setup;
+    }
     next.outer[i] = outer;
     next.inner[i] = inner;
     next.pairs = i + 1;

@@ -1,23 +1,6 @@
--- `take_processors` meets its contract. Assumes nothing.
 use borrow.Author.Needs.{needs}
-use borrow.Author.Tests.{eq-eqb, ne-eqb}
-use Rattle.scenario.specs.Drafts.{settled}
 use Rattle.scenario.proofs.drafts.take_processors.Statement.{statement}
 use Rattle.scenario.proofs.drafts.take_processors.Tie as tie
-
-faulty-requires : tie.Need-faulty-requires
-faulty-requires c κs = search needs
-
-returns : tie.Need-returns
-unfolding settled
-returns c = rw (ne-eqb _ _ (c .before .if1 .taken), c .faulty .ensures)
-
-faulty-requires-2 : tie.Need-faulty-requires-2
-faulty-requires-2 c κs = search needs
-
-returns-2 : tie.Need-returns-2
-unfolding settled
-returns-2 c = rw (c .faulty2 .ensures, eq-eqb _ _ (c .before .before .if1 .left), c .before .if2 .taken)
 
 with-processors-requires : tie.Need-with-processors-requires
 with-processors-requires c κs = search needs
@@ -25,29 +8,12 @@ with-processors-requires c κs = search needs
 with-set-up-requires : tie.Need-with-set-up-requires
 with-set-up-requires c κs = search needs
 
-kept-requires : tie.Need-kept-requires
-kept-requires c κs = search needs
+settle-requires : tie.Need-settle-requires
+settle-requires c κs = search needs
 
-returns-3 : tie.Need-returns-3
-unfolding settled
-returns-3 c =
-    rw (
-      eq-eqb _ _ (c .before .before .before .before .if1 .left),
-      c .before .before .before .if2 .left,
-      c .kept .ensures,
-      c .before .with-set-up .ensures,
-      c .before .before .with-processors .ensures,
-    )
+returns : tie.Need-returns
+returns c = rw ((c .settle) .ensures, (c .before .with-set-up) .ensures, (c .before .before .with-processors) .ensures)
 
 pub take-processors-spec : {M : Type 1} → statement M
 take-processors-spec =
-    tie.close
-    (tie.spec
-    faulty-requires
-    returns
-    faulty-requires-2
-    returns-2
-    with-processors-requires
-    with-set-up-requires
-    kept-requires
-    returns-3)
+    tie.close (tie.spec with-processors-requires with-set-up-requires settle-requires returns)

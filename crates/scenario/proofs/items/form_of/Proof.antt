@@ -1,25 +1,18 @@
 use borrow.Author.Needs.{needs}
-use native.Mathlib.Omega.{arith}
 use mathlib.Core.Path.{sym}
 use Rattle.scenario.proofs.Sorts.{form-at, form-past}
 use Rattle.scenario.proofs.items.form_of.Statement.{statement}
 use Rattle.scenario.proofs.items.form_of.Tie as tie
-use Rattle.scenario.proofs.items.form_of.Reads as reads
-use Rattle.scenario.proofs.items.form_of.Lts as lts
 
--- src/items.rt:85:23
 mul-result : tie.Need-mul-result
 mul-result c = search needs
 
--- src/items.rt:85:23
 array-copy-out-result : tie.Need-array-copy-out-result
 array-copy-out-result c = search needs
 
--- src/items.rt:82:1
 returns : tie.Need-returns
 returns c = form-at ((c .before .before .args) .item) _ (search needs)
 
--- src/items.rt:82:1
 returns-2 : tie.Need-returns-2
 returns-2 c = sym (form-past ((c .before .args) .item) (search needs))
 

@@ -1,5 +1,4 @@
 use borrow.Author.Needs.{needs}
-use native.Mathlib.Omega.{arith}
 use Prim.Native.Nat.{ℕ}
 use mathlib.Core.Path.{_≡_, sym, ap, _∙_}
 use mathlib.Core.List.{List}
@@ -20,60 +19,57 @@ use Rattle.scenario.proofs.items.said.Reads as said-reads
 use Rattle.scenario.proofs.reading.read_argument.Reads as read-argument-reads
 use Rattle.search.proofs.row.Reads as row-reads
 
--- src/items.rt:189:9
 form-of-requires : tie.Need-form-of-requires
 form-of-requires c κs = search needs
 
--- src/items.rt:190:9
 read-argument-requires : tie.Need-read-argument-requires
 read-argument-requires c κs = search needs
 
--- src/items.rt:191:9
 read-argument-requires-2 : tie.Need-read-argument-requires-2
 read-argument-requires-2 c κs = search needs
 
--- src/items.rt:192:9
 read-argument-requires-3 : tie.Need-read-argument-requires-3
 read-argument-requires-3 c κs = search needs
 
--- src/items.rt:193:9
 read-argument-requires-4 : tie.Need-read-argument-requires-4
 read-argument-requires-4 c κs = search needs
 
--- src/items.rt:194:9
 read-argument-requires-5 : tie.Need-read-argument-requires-5
 read-argument-requires-5 c κs = search needs
 
--- src/items.rt:195:43
 misfit-requires : tie.Need-misfit-requires
 misfit-requires c κs = search needs
 
--- src/items.rt:195:9
 misfit-requires-2 : tie.Need-misfit-requires-2
 misfit-requires-2 c κs = search needs
 
--- src/items.rt:199:36
 misfit-requires-3 : tie.Need-misfit-requires-3
 misfit-requires-3 c κs = search needs
 
--- src/items.rt:199:9
 misfit-requires-4 : tie.Need-misfit-requires-4
 misfit-requires-4 c κs = search needs
 
--- src/items.rt:196:9
 misfit-requires-5 : tie.Need-misfit-requires-5
 misfit-requires-5 c κs = search needs
 
--- src/items.rt:201:9
 row-requires : tie.Need-row-requires
 row-requires c κs = search needs
 
 -- what is known once all is read, the form and the five words; the rows' answer stands in front
 abbrev Seen : Type 0
 Seen =
-    lts.After-row
-    (form-of-reads.Asked, form-of-reads.Learnt, read-argument-reads.Asked, read-argument-reads.Learnt,
-    misfit-reads.Asked, misfit-reads.Learnt, row-reads.Asked, row-reads.Learnt, said-reads.Asked, said-reads.Learnt)
+    lts.After-row (
+      form-of-reads.Asked,
+      form-of-reads.Learnt,
+      read-argument-reads.Asked,
+      read-argument-reads.Learnt,
+      misfit-reads.Asked,
+      misfit-reads.Learnt,
+      row-reads.Asked,
+      row-reads.Learnt,
+      said-reads.Asked,
+      said-reads.Learnt,
+    )
     reads.Pre
     reads.Post
 
@@ -102,7 +98,7 @@ module _ (seen : Seen) where
       × (words-read .2 .argument ≡ argumentAt (given .0) rest 2)
       × (words-read .3 .argument ≡ argumentAt (given .0) rest 3))
       × Fit (given .0) (words-read .0 .argument .value) (words-read .1 .argument .value)
-          (words-read .2 .argument .value) (words-read .3 .argument .value)
+      (words-read .2 .argument .value) (words-read .3 .argument .value)
   known =
       let m5 = seen .before in
       let m4 = m5 .before in
@@ -120,15 +116,19 @@ module _ (seen : Seen) where
       let rb = b .read-argument2 .ensures in
       let rc = c .read-argument3 .ensures in
       let rd = d .read-argument4 .ensures in
-      let re = e .read-argument5 .ensures in
-      (wrong-read l (given .1) (given .0) _ form _ _ _ _ _ ra rb rc rd re _ _ _ _ _ _
-      (m1 .misfit .ensures) (m2 .misfit2 .ensures) (m3 .misfit3 .ensures) (m4 .misfit4 .ensures) (m5 .misfit5 .ensures)
-      (seen .row .ensures),
-      (first-read l (given .1) (given .0) _ form _ _ _ _ _ ra rb rc rd re,
-      second-read l (given .1) (given .0) _ form _ _ _ _ _ ra rb rc rd re,
-      third-read l (given .1) (given .0) _ form _ _ _ _ _ ra rb rc rd re,
-      fourth-read l (given .1) (given .0) _ form _ _ _ _ _ ra rb rc rd re),
-      all-fit l (given .1) (given .0) _ form _ _ _ _ _ ra rb rc rd re)
+      let re = e .read-argument5 .ensures in (
+        wrong-read l (given .1) (given .0) _ form _ _ _ _ _ ra rb rc rd re _ _ _ _ _ _
+            (m1 .misfit .ensures) (m2 .misfit2 .ensures) (m3 .misfit3 .ensures) (m4 .misfit4 .ensures)
+            (m5 .misfit5 .ensures)
+            (seen .row .ensures),
+        (
+          first-read l (given .1) (given .0) _ form _ _ _ _ _ ra rb rc rd re,
+          second-read l (given .1) (given .0) _ form _ _ _ _ _ ra rb rc rd re,
+          third-read l (given .1) (given .0) _ form _ _ _ _ _ ra rb rc rd re,
+          fourth-read l (given .1) (given .0) _ form _ _ _ _ _ ra rb rc rd re,
+        ),
+        all-fit l (given .1) (given .0) _ form _ _ _ _ _ ra rb rc rd re,
+      )
 
 value-same : {x y : Argument} → x ≡ y → y .value ≡ x .value
 value-same e = ap (λ (x : Argument). x .value) (sym e)
@@ -145,9 +145,10 @@ returns-2 : tie.Need-returns-2
 returns-2 c =
     let k = known (c .before .before) in
     let told =
-        c .said .ensures (λ j. argumentAt (given (c .before .before) .0) (rest (c .before .before)) j .value)
-        (value-same (k .1 .0)) (value-same (k .1 .1)) (value-same (k .1 .2)) (value-same (k .1 .3)) in
-    told ∙ sym (behind-right (given (c .before .before) .0) (rest (c .before .before)) (sym (k .0) ∙ c .before .if1 .left))
+    c .said .ensures (λ j. argumentAt (given (c .before .before) .0) (rest (c .before .before)) j .value)
+    (value-same (k .1 .0)) (value-same (k .1 .1)) (value-same (k .1 .2)) (value-same (k .1 .3)) in
+    told
+    ∙ sym (behind-right (given (c .before .before) .0) (rest (c .before .before)) (sym (k .0) ∙ c .before .if1 .left))
 
 pub item-behind-spec : {M : Type 1} → statement M
 item-behind-spec =

@@ -1,6 +1,6 @@
 use borrow.Author.Needs.{needs}
 use native.Mathlib.Omega.{arith}
-use mathlib.Core.Path.{_≡_, refl, sym, _∙_}
+use mathlib.Core.Path.{_≡_}
 use lib.ListN.{length}
 use borrow.Author.Tests.{eq-eqb, ne-eqb}
 use Rattle.search.specs.Words.{_is_}
@@ -10,22 +10,13 @@ use Rattle.scenario.specs.Items.{itemIn}
 use Rattle.scenario.proofs.Words.{word-at, behind-at, word-length}
 use Rattle.scenario.proofs.items.item_in.Statement.{statement}
 use Rattle.scenario.proofs.items.item_in.Tie as tie
-use Rattle.scenario.proofs.items.item_in.Reads as reads
-use Rattle.scenario.proofs.items.item_in.Lts as lts
-use Rattle.scenario.proofs.items.item_behind.Reads as item-behind-reads
-use Rattle.scenario.proofs.items.item_named.Reads as item-named-reads
-use Rattle.scenario.proofs.reading.blanks_end.Reads as blanks-end-reads
-use Rattle.scenario.proofs.reading.word_end.Reads as word-end-reads
 
--- src/items.rt:218:9
 blanks-end-requires : tie.Need-blanks-end-requires
 blanks-end-requires c κs = search needs
 
--- src/items.rt:219:9
 word-end-requires : tie.Need-word-end-requires
 word-end-requires c κs = search needs
 
--- src/items.rt:221:9
 returns : tie.Need-returns
 unfolding itemIn
 returns c =
@@ -36,27 +27,21 @@ returns c =
     let e : length (firstWord l) ≡ 0 = omega (arith, n, (c .if1) .taken) in
     rw (eq-eqb _ 0 e)
 
--- src/items.rt:223:35
 sub-item-named : tie.Need-sub-item-named
 sub-item-named c = search needs
 
--- src/items.rt:223:35
 part-item-named-start : tie.Need-part-item-named-start
 part-item-named-start c = search needs
 
--- src/items.rt:223:35
 part-item-named-end : tie.Need-part-item-named-end
 part-item-named-end c = search needs
 
--- src/items.rt:223:24
 item-named-requires : tie.Need-item-named-requires
 item-named-requires c κs = search needs
 
--- src/items.rt:223:5
 item-behind-requires : tie.Need-item-behind-requires
 item-behind-requires c κs = search needs
 
--- src/items.rt:215:1
 returns-2 : tie.Need-returns-2
 unfolding itemIn
 returns-2 c =
@@ -68,7 +53,7 @@ returns-2 c =
     let w = worded .word-end .ensures .0 in
     let n = word-length l 0 from to b w (worded .word-end .ensures .1) in
     let d : (length (firstWord l) is 0) ≡ false =
-        ne-eqb (length (firstWord l)) 0 (λ z. c .before .before .before .if1 .left (omega (arith, n, z, w))) in
+    ne-eqb (length (firstWord l)) 0 (λ z. c .before .before .before .if1 .left (omega (arith, n, z, w))) in
     rw (d, c .item-behind .ensures, c .before .item-named .ensures, word-at l 0 from to b w, behind-at l 0 from to b w)
 
 pub item-in-spec : {M : Type 1} → statement M

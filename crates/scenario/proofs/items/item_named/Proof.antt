@@ -1,160 +1,118 @@
 use borrow.Author.Needs.{needs}
-use native.Mathlib.Omega.{arith}
 use Prim.Native.Nat.{ℕ}
 use mathlib.Core.Path.{_≡_, refl, sym, _∙_}
 use Rattle.scenario.proofs.Sorts.{picked, named}
 use Rattle.scenario.proofs.items.item_named.Statement.{statement}
 use Rattle.scenario.proofs.items.item_named.Tie as tie
-use Rattle.scenario.proofs.items.item_named.Reads as reads
-use Rattle.scenario.proofs.items.item_named.Lts as lts
-use Rattle.scenario.proofs.reading.is_word.Reads as is-word-reads
-use Rattle.search.proofs.pick.Reads as pick-reads
 
--- src/items.rt:92:44
 slice-aggregate-is-word : tie.Need-slice-aggregate-is-word
 slice-aggregate-is-word c = search needs
 
--- src/items.rt:92:30
 is-word-requires : tie.Need-is-word-requires
 is-word-requires c κs = search needs
 
--- src/items.rt:92:9
 pick-requires : tie.Need-pick-requires
 pick-requires c κs = search needs
 
--- src/items.rt:93:44
 slice-aggregate-is-word-2 : tie.Need-slice-aggregate-is-word-2
 slice-aggregate-is-word-2 c = search needs
 
--- src/items.rt:93:30
 is-word-requires-2 : tie.Need-is-word-requires-2
 is-word-requires-2 c κs = search needs
 
--- src/items.rt:93:9
 pick-requires-2 : tie.Need-pick-requires-2
 pick-requires-2 c κs = search needs
 
--- src/items.rt:94:43
 slice-aggregate-is-word-3 : tie.Need-slice-aggregate-is-word-3
 slice-aggregate-is-word-3 c = search needs
 
--- src/items.rt:94:29
 is-word-requires-3 : tie.Need-is-word-requires-3
 is-word-requires-3 c κs = search needs
 
--- src/items.rt:94:9
 pick-requires-3 : tie.Need-pick-requires-3
 pick-requires-3 c κs = search needs
 
--- src/items.rt:95:47
 slice-aggregate-is-word-4 : tie.Need-slice-aggregate-is-word-4
 slice-aggregate-is-word-4 c = search needs
 
--- src/items.rt:95:33
 is-word-requires-4 : tie.Need-is-word-requires-4
 is-word-requires-4 c κs = search needs
 
--- src/items.rt:95:9
 pick-requires-4 : tie.Need-pick-requires-4
 pick-requires-4 c κs = search needs
 
--- src/items.rt:96:46
 slice-aggregate-is-word-5 : tie.Need-slice-aggregate-is-word-5
 slice-aggregate-is-word-5 c = search needs
 
--- src/items.rt:96:32
 is-word-requires-5 : tie.Need-is-word-requires-5
 is-word-requires-5 c κs = search needs
 
--- src/items.rt:96:9
 pick-requires-5 : tie.Need-pick-requires-5
 pick-requires-5 c κs = search needs
 
--- src/items.rt:97:45
 slice-aggregate-is-word-6 : tie.Need-slice-aggregate-is-word-6
 slice-aggregate-is-word-6 c = search needs
 
--- src/items.rt:97:31
 is-word-requires-6 : tie.Need-is-word-requires-6
 is-word-requires-6 c κs = search needs
 
--- src/items.rt:97:9
 pick-requires-6 : tie.Need-pick-requires-6
 pick-requires-6 c κs = search needs
 
--- src/items.rt:98:45
 slice-aggregate-is-word-7 : tie.Need-slice-aggregate-is-word-7
 slice-aggregate-is-word-7 c = search needs
 
--- src/items.rt:98:31
 is-word-requires-7 : tie.Need-is-word-requires-7
 is-word-requires-7 c κs = search needs
 
--- src/items.rt:98:9
 pick-requires-7 : tie.Need-pick-requires-7
 pick-requires-7 c κs = search needs
 
--- src/items.rt:99:43
 slice-aggregate-is-word-8 : tie.Need-slice-aggregate-is-word-8
 slice-aggregate-is-word-8 c = search needs
 
--- src/items.rt:99:29
 is-word-requires-8 : tie.Need-is-word-requires-8
 is-word-requires-8 c κs = search needs
 
--- src/items.rt:99:9
 pick-requires-8 : tie.Need-pick-requires-8
 pick-requires-8 c κs = search needs
 
--- src/items.rt:100:47
 slice-aggregate-is-word-9 : tie.Need-slice-aggregate-is-word-9
 slice-aggregate-is-word-9 c = search needs
 
--- src/items.rt:100:33
 is-word-requires-9 : tie.Need-is-word-requires-9
 is-word-requires-9 c κs = search needs
 
--- src/items.rt:100:9
 pick-requires-9 : tie.Need-pick-requires-9
 pick-requires-9 c κs = search needs
 
--- src/items.rt:101:43
 slice-aggregate-is-word-10 : tie.Need-slice-aggregate-is-word-10
 slice-aggregate-is-word-10 c = search needs
 
--- src/items.rt:101:29
 is-word-requires-10 : tie.Need-is-word-requires-10
 is-word-requires-10 c κs = search needs
 
--- src/items.rt:101:9
 pick-requires-10 : tie.Need-pick-requires-10
 pick-requires-10 c κs = search needs
 
--- src/items.rt:102:44
 slice-aggregate-is-word-11 : tie.Need-slice-aggregate-is-word-11
 slice-aggregate-is-word-11 c = search needs
 
--- src/items.rt:102:30
 is-word-requires-11 : tie.Need-is-word-requires-11
 is-word-requires-11 c κs = search needs
 
--- src/items.rt:102:9
 pick-requires-11 : tie.Need-pick-requires-11
 pick-requires-11 c κs = search needs
 
--- src/items.rt:103:32
 slice-aggregate-is-word-12 : tie.Need-slice-aggregate-is-word-12
 slice-aggregate-is-word-12 c = search needs
 
--- src/items.rt:103:18
 is-word-requires-12 : tie.Need-is-word-requires-12
 is-word-requires-12 c κs = search needs
 
--- src/items.rt:103:5
 pick-requires-12 : tie.Need-pick-requires-12
 pick-requires-12 c κs = search needs
 
--- src/items.rt:89:1
 returns : tie.Need-returns
 returns c =
     let last : _≡_ {A = ℕ} 12 12 = refl in

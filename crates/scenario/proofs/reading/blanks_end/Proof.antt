@@ -9,9 +9,6 @@ use Rattle.scenario.specs.Words.{isBlank, blanks}
 use Rattle.scenario.proofs.Words.{blanks-on, blanks-off, blanks-out}
 use Rattle.scenario.proofs.reading.blanks_end.Statement.{statement}
 use Rattle.scenario.proofs.reading.blanks_end.Tie as tie
-use Rattle.scenario.proofs.reading.blanks_end.Reads as reads
-use Rattle.scenario.proofs.reading.blanks_end.Lts as lts
-use Rattle.scenario.proofs.reading.is_blank.Reads as is-blank-reads
 
 abbrev Inv-loop : tie.InvT-loop
 Inv-loop l from i₀ i = (from ≤ i) × (i ≤ length l) × (from + blanks (drop from l) ≡ i + blanks (drop i l))
@@ -19,19 +16,15 @@ Inv-loop l from i₀ i = (from ≤ i) × (i ≤ length l) × (from + blanks (dro
 abbrev μ-loop : tie.MeasureT-loop
 μ-loop l from i₀ i = length l - i
 
--- src/reading.rt:58:5
 loop-holds : tie.Need-loop-holds Inv-loop μ-loop
 loop-holds c = search needs
 
--- src/reading.rt:59:22
 shared-slice-read-is-blank : tie.Need-shared-slice-read-is-blank Inv-loop μ-loop
 shared-slice-read-is-blank c = search needs
 
--- src/reading.rt:59:13
 is-blank-requires : tie.Need-is-blank-requires Inv-loop μ-loop
 is-blank-requires c κs = search needs
 
--- src/reading.rt:60:13
 returns : tie.Need-returns Inv-loop μ-loop
 returns c =
     let o = (c .before .before .before .before .loop) in
@@ -41,15 +34,12 @@ returns c =
     let z = blanks-off l (o .i) h b in
     (omega (arith, o .inv .2, z), search needs)
 
--- src/reading.rt:62:9
 add-i : tie.Need-add-i Inv-loop μ-loop
 add-i c = search needs
 
--- src/reading.rt:58:5
 loop-less : tie.Need-loop-less Inv-loop μ-loop
 loop-less c = search needs
 
--- src/reading.rt:58:5
 loop-again : tie.Need-loop-again Inv-loop μ-loop
 loop-again c =
     let o = (c .before .before .before .before .loop) in
@@ -59,7 +49,6 @@ loop-again c =
     let z = blanks-on l (o .i) h b in
     (omega arith, search needs, omega (arith, o .inv .2, z))
 
--- src/reading.rt:53:1
 returns-2 : tie.Need-returns-2 Inv-loop μ-loop
 returns-2 c =
     let o = (c .before .loop) in

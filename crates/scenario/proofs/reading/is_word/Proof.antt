@@ -1,6 +1,6 @@
 use borrow.Author.Needs.{needs}
 use native.Mathlib.Omega.{arith}
-use Prim.Native.Nat.{_+_, _-_, _<_, _≤_}
+use Prim.Native.Nat.{_-_, _<_, _≤_}
 use mathlib.Core.Path.{_≡_, sym, _∙_}
 use mathlib.Core.Logic.{_≢_}
 use lib.ListN.{length, getD, drop}
@@ -8,8 +8,6 @@ use Rattle.scenario.specs.Words.{areSame}
 use Rattle.scenario.proofs.Words.{same-lengths, same-on, same-off, same-out}
 use Rattle.scenario.proofs.reading.is_word.Statement.{statement}
 use Rattle.scenario.proofs.reading.is_word.Tie as tie
-use Rattle.scenario.proofs.reading.is_word.Reads as reads
-use Rattle.scenario.proofs.reading.is_word.Lts as lts
 
 abbrev Inv-loop : tie.InvT-loop
 Inv-loop word name i₀ i =
@@ -18,23 +16,18 @@ Inv-loop word name i₀ i =
 abbrev μ-loop : tie.MeasureT-loop
 μ-loop word name i₀ i = length word - i
 
--- src/reading.rt:85:9
 returns : tie.Need-returns Inv-loop μ-loop
 returns c = sym (same-lengths ((c .before .args) .word .now) ((c .before .args) .name .now) (search needs))
 
--- src/reading.rt:88:5
 loop-holds : tie.Need-loop-holds Inv-loop μ-loop
 loop-holds c = search needs
 
--- src/reading.rt:89:12
 shared-slice-read-if2 : tie.Need-shared-slice-read-if2 Inv-loop μ-loop
 shared-slice-read-if2 c = search needs
 
--- src/reading.rt:89:23
 shared-slice-read-if2-2 : tie.Need-shared-slice-read-if2-2 Inv-loop μ-loop
 shared-slice-read-if2-2 c = search needs
 
--- src/reading.rt:90:13
 returns-2 : tie.Need-returns-2 Inv-loop μ-loop
 returns-2 c =
     let o = (c .before .before .before .before .loop) in
@@ -44,15 +37,12 @@ returns-2 c =
     let d : getD w (o .i) 0 ≢ getD n (o .i) 0 = search needs in
     sym (o .inv .2 ∙ same-off w n (o .i) h (omega arith) d)
 
--- src/reading.rt:92:9
 add-i : tie.Need-add-i Inv-loop μ-loop
 add-i c = search needs
 
--- src/reading.rt:88:5
 loop-less : tie.Need-loop-less Inv-loop μ-loop
 loop-less c = search needs
 
--- src/reading.rt:88:5
 loop-again : tie.Need-loop-again Inv-loop μ-loop
 loop-again c =
     let o = (c .before .before .before .before .loop) in
@@ -62,7 +52,6 @@ loop-again c =
     let e : getD w (o .i) 0 ≡ getD n (o .i) 0 = search needs in
     (search needs, o .inv .1, o .inv .2 ∙ same-on w n (o .i) h (omega arith) e)
 
--- src/reading.rt:81:1
 returns-3 : tie.Need-returns-3 Inv-loop μ-loop
 returns-3 c =
     let o = (c .before .loop) in

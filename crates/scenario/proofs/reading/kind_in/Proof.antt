@@ -1,5 +1,4 @@
 use borrow.Author.Needs.{needs}
-use native.Mathlib.Omega.{arith}
 use mathlib.Core.Path.{_≡_, sym, _∙_}
 use mathlib.Core.Bool.{true, false}
 use Rattle.search.specs.Texts.{codes}
@@ -7,28 +6,19 @@ use Rattle.scenario.specs.Words.{areSame}
 use Rattle.scenario.specs.Items.{kindIn}
 use Rattle.scenario.proofs.reading.kind_in.Statement.{statement}
 use Rattle.scenario.proofs.reading.kind_in.Tie as tie
-use Rattle.scenario.proofs.reading.kind_in.Reads as reads
-use Rattle.scenario.proofs.reading.kind_in.Lts as lts
-use Rattle.scenario.proofs.reading.is_word.Reads as is-word-reads
-use Rattle.scenario.proofs.reading.one.Reads as one-reads
 
--- src/reading.rt:180:22
 slice-aggregate-is-word : tie.Need-slice-aggregate-is-word
 slice-aggregate-is-word c = search needs
 
--- src/reading.rt:180:8
 is-word-requires : tie.Need-is-word-requires
 is-word-requires c κs = search needs
 
--- src/reading.rt:181:20
 cast-one : tie.Need-cast-one
 cast-one c = search needs
 
--- src/reading.rt:181:9
 one-requires : tie.Need-one-requires
 one-requires c κs = search needs
 
--- src/reading.rt:181:9
 returns : tie.Need-returns
 unfolding kindIn
 returns c =
@@ -37,23 +27,18 @@ returns c =
     ∙ ((c .before .if1) .taken) in
     rw (s, (c .one) .ensures)
 
--- src/reading.rt:183:22
 slice-aggregate-is-word-2 : tie.Need-slice-aggregate-is-word-2
 slice-aggregate-is-word-2 c = search needs
 
--- src/reading.rt:183:8
 is-word-requires-2 : tie.Need-is-word-requires-2
 is-word-requires-2 c κs = search needs
 
--- src/reading.rt:184:20
 cast-one-2 : tie.Need-cast-one-2
 cast-one-2 c = search needs
 
--- src/reading.rt:184:9
 one-requires-2 : tie.Need-one-requires-2
 one-requires-2 c κs = search needs
 
--- src/reading.rt:184:9
 returns-2 : tie.Need-returns-2
 unfolding kindIn
 returns-2 c =
@@ -64,7 +49,6 @@ returns-2 c =
     ∙ ((c .before .if2) .taken) in
     rw (s, l, (c .one2) .ensures)
 
--- src/reading.rt:177:1
 returns-3 : tie.Need-returns-3
 unfolding kindIn
 returns-3 c =

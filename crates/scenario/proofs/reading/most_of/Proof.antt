@@ -1,32 +1,24 @@
 use borrow.Author.Needs.{needs}
-use native.Mathlib.Omega.{arith}
 use borrow.Author.Tests.{eq-eqb, ne-eqb}
 use Rattle.scenario.specs.Items.{mostOf}
 use Rattle.scenario.proofs.reading.most_of.Statement.{statement}
 use Rattle.scenario.proofs.reading.most_of.Tie as tie
-use Rattle.scenario.proofs.reading.most_of.Reads as reads
-use Rattle.scenario.proofs.reading.most_of.Lts as lts
 
--- src/reading.rt:119:9
 returns : tie.Need-returns
 unfolding mostOf
 returns c = rw (eq-eqb _ _ ((c .if1) .taken))
 
--- src/reading.rt:122:9
 returns-2 : tie.Need-returns-2
 unfolding mostOf
 returns-2 c = rw (ne-eqb _ _ ((c .before .if1) .left), ((c .if2) .taken))
 
--- src/reading.rt:125:9
 returns-3 : tie.Need-returns-3
 unfolding mostOf
 returns-3 c = rw (ne-eqb _ _ ((c .before .before .if1) .left), ((c .before .if2) .left), eq-eqb _ _ ((c .if3) .taken))
 
--- src/reading.rt:128:16
 cast-result : tie.Need-cast-result
 cast-result c = search needs
 
--- src/reading.rt:128:9
 returns-4 : tie.Need-returns-4
 unfolding mostOf
 returns-4 c =
@@ -37,7 +29,6 @@ returns-4 c =
       eq-eqb _ _ ((c .if4) .taken),
     )
 
--- src/reading.rt:115:1
 returns-5 : tie.Need-returns-5
 unfolding mostOf
 returns-5 c =

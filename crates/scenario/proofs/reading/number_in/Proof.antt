@@ -11,10 +11,6 @@ use Rattle.scenario.specs.Words.{isDigit, areDigits}
 use Rattle.scenario.proofs.Words.{digits-on, digits-off, digits-out, value-on, value-out, value-least, number-none, number-undigit, number-large, number-good}
 use Rattle.scenario.proofs.reading.number_in.Statement.{statement}
 use Rattle.scenario.proofs.reading.number_in.Tie as tie
-use Rattle.scenario.proofs.reading.number_in.Reads as reads
-use Rattle.scenario.proofs.reading.number_in.Lts as lts
-use Rattle.scenario.proofs.reading.digit_value.Reads as digit-value-reads
-use Rattle.scenario.proofs.reading.is_digit.Reads as is-digit-reads
 
 abbrev Inv-loop : tie.InvT-loop
 Inv-loop word most value₀ i₀ value i =
@@ -24,23 +20,18 @@ Inv-loop word most value₀ i₀ value i =
 abbrev μ-loop : tie.MeasureT-loop
 μ-loop word most value₀ i₀ value i = length word - i
 
--- src/reading.rt:138:9
 returns : tie.Need-returns Inv-loop μ-loop
 returns c = sym (number-none ((c .before .before .args) .most) ((c .before .before .args) .word .now) (search needs))
 
--- src/reading.rt:142:5
 loop-holds : tie.Need-loop-holds Inv-loop μ-loop
 loop-holds c = search needs
 
--- src/reading.rt:143:17
 shared-slice-read-c : tie.Need-shared-slice-read-c Inv-loop μ-loop
 shared-slice-read-c c = search needs
 
--- src/reading.rt:144:13
 is-digit-requires : tie.Need-is-digit-requires Inv-loop μ-loop
 is-digit-requires c κs = search needs
 
--- src/reading.rt:145:13
 returns-2 : tie.Need-returns-2 Inv-loop μ-loop
 returns-2 c =
     let o = (c .before .before .before .before .loop) in
@@ -51,19 +42,15 @@ returns-2 c =
     (number-undigit (c .before .before .before .before .before .before .before .args .most) w
     (o .inv .3 ∙ digits-off w (o .i) h b))
 
--- src/reading.rt:147:17
 mul-value : tie.Need-mul-value Inv-loop μ-loop
 mul-value c = search needs
 
--- src/reading.rt:147:30
 digit-value-requires : tie.Need-digit-value-requires Inv-loop μ-loop
 digit-value-requires c κs = search needs
 
--- src/reading.rt:147:17
 add-value : tie.Need-add-value Inv-loop μ-loop
 add-value c = search needs
 
--- src/reading.rt:149:13
 returns-3 : tie.Need-returns-3 Inv-loop μ-loop
 returns-3 c =
     let o = (c .before .before .before .before .before .before .loop) in
@@ -75,15 +62,12 @@ returns-3 c =
     (number-large (c .before .before .before .before .before .before .before .before .before .args .most) w
     (omega (arith, v, m, c .before .digit-value .ensures .0, c .if3 .taken)))
 
--- src/reading.rt:151:9
 add-i : tie.Need-add-i Inv-loop μ-loop
 add-i c = search needs
 
--- src/reading.rt:142:5
 loop-less : tie.Need-loop-less Inv-loop μ-loop
 loop-less c = search needs
 
--- src/reading.rt:142:5
 loop-again : tie.Need-loop-again Inv-loop μ-loop
 loop-again c =
     let o = (c .before .before .before .before .before .before .loop) in
@@ -98,11 +82,9 @@ loop-again c =
       rw ((c .before .digit-value) .ensures .0) (o .inv .4 ∙ value-on w (o .i) h (o .value)),
     )
 
--- src/reading.rt:155:16
 cast-t15 : tie.Need-cast-t15 Inv-loop μ-loop
 cast-t15 c = search needs
 
--- src/reading.rt:134:1
 returns-4 : tie.Need-returns-4 Inv-loop μ-loop
 returns-4 c =
     let o = (c .before .loop) in

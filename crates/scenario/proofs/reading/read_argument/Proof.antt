@@ -1,39 +1,26 @@
 use borrow.Author.Needs.{needs}
-use native.Mathlib.Omega.{arith}
 use Rattle.scenario.proofs.Words.{behind-at, word-at}
 use Rattle.scenario.proofs.reading.read_argument.Statement.{statement}
 use Rattle.scenario.proofs.reading.read_argument.Tie as tie
-use Rattle.scenario.proofs.reading.read_argument.Reads as reads
-use Rattle.scenario.proofs.reading.read_argument.Lts as lts
-use Rattle.scenario.proofs.reading.argument_of.Reads as argument-of-reads
-use Rattle.scenario.proofs.reading.blanks_end.Reads as blanks-end-reads
-use Rattle.scenario.proofs.reading.word_end.Reads as word-end-reads
 
--- src/reading.rt:209:9
 blanks-end-requires : tie.Need-blanks-end-requires
 blanks-end-requires c κs = search needs
 
--- src/reading.rt:210:9
 word-end-requires : tie.Need-word-end-requires
 word-end-requires c κs = search needs
 
--- src/reading.rt:211:38
 sub-argument-of : tie.Need-sub-argument-of
 sub-argument-of c = search needs
 
--- src/reading.rt:211:38
 part-argument-of-start : tie.Need-part-argument-of-start
 part-argument-of-start c = search needs
 
--- src/reading.rt:211:38
 part-argument-of-end : tie.Need-part-argument-of-end
 part-argument-of-end c = search needs
 
--- src/reading.rt:211:9
 argument-of-requires : tie.Need-argument-of-requires
 argument-of-requires c κs = search needs
 
--- src/reading.rt:205:1
 returns : tie.Need-returns
 returns c =
     let l = (c .before .before .before .before .before .args) .l .now in

@@ -5,23 +5,16 @@ use mathlib.Core.Path.{_≡_, sym, _∙_}
 use lib.ListN.{take}
 use lib.Seq.{take-take}
 use Rattle.bytes.specs.Bytes.{indexOf, slice}
-use Rattle.scenario.specs.Words.{hash, said, unendedLength}
+use Rattle.scenario.specs.Words.{hash, said}
 use Rattle.scenario.proofs.reading.said_length.Statement.{statement}
 use Rattle.scenario.proofs.reading.said_length.Tie as tie
-use Rattle.scenario.proofs.reading.said_length.Reads as reads
-use Rattle.scenario.proofs.reading.said_length.Lts as lts
-use Rattle.bytes.proofs.scan.find.Reads as find-reads
-use Rattle.scenario.proofs.reading.unended_length.Reads as unended-length-reads
 
--- src/reading.rt:42:9
 unended-length-requires : tie.Need-unended-length-requires
 unended-length-requires c κs = search needs
 
--- src/reading.rt:43:5
 find-requires : tie.Need-find-requires
 find-requires c κs = search needs
 
--- src/reading.rt:39:1
 returns : tie.Need-returns
 unfolding said slice
 returns c =

@@ -1,52 +1,37 @@
 use borrow.Author.Needs.{needs}
-use native.Mathlib.Omega.{arith}
-use mathlib.Core.Path.{_≡_, sym, _∙_}
 use lib.ListN.{List·getD-eq-default}
 use borrow.Author.Tests.{eq-eqb, ne-eqb}
 use Rattle.scenario.specs.Items.{tickIn}
 use Rattle.scenario.proofs.Words.{tail-all}
 use Rattle.scenario.proofs.reading.tick_in.Statement.{statement}
 use Rattle.scenario.proofs.reading.tick_in.Tie as tie
-use Rattle.scenario.proofs.reading.tick_in.Reads as reads
-use Rattle.scenario.proofs.reading.tick_in.Lts as lts
-use Rattle.scenario.proofs.reading.most_of.Reads as most-of-reads
-use Rattle.scenario.proofs.reading.number_in.Reads as number-in-reads
 
--- src/reading.rt:169:9
 returns : tie.Need-returns
 unfolding tickIn
 returns c = rw (List·getD-eq-default ((c .before .before .args) .word .now) 0 {n = 0} (search needs))
 
--- src/reading.rt:171:8
 shared-slice-read-if2 : tie.Need-shared-slice-read-if2
 shared-slice-read-if2 c = search needs
 
--- src/reading.rt:172:9
 returns-2 : tie.Need-returns-2
 unfolding tickIn
 returns-2 c = rw (ne-eqb _ _ ((c .if2) .taken))
 
--- src/reading.rt:174:15
 sub-number-in : tie.Need-sub-number-in
 sub-number-in c = search needs
 
--- src/reading.rt:174:15
 part-number-in-start : tie.Need-part-number-in-start
 part-number-in-start c = search needs
 
--- src/reading.rt:174:15
 part-number-in-end : tie.Need-part-number-in-end
 part-number-in-end c = search needs
 
--- src/reading.rt:174:27
 most-of-requires : tie.Need-most-of-requires
 most-of-requires c κs = search needs
 
--- src/reading.rt:174:5
 number-in-requires : tie.Need-number-in-requires
 number-in-requires c κs = search needs
 
--- src/reading.rt:165:1
 returns-3 : tie.Need-returns-3
 unfolding tickIn
 returns-3 c =

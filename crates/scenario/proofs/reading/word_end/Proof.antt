@@ -8,9 +8,6 @@ use Rattle.scenario.specs.Words.{isBlank, letters}
 use Rattle.scenario.proofs.Words.{letters-on, letters-off, letters-out}
 use Rattle.scenario.proofs.reading.word_end.Statement.{statement}
 use Rattle.scenario.proofs.reading.word_end.Tie as tie
-use Rattle.scenario.proofs.reading.word_end.Reads as reads
-use Rattle.scenario.proofs.reading.word_end.Lts as lts
-use Rattle.scenario.proofs.reading.is_blank.Reads as is-blank-reads
 
 abbrev Inv-loop : tie.InvT-loop
 Inv-loop l from i₀ i = (from ≤ i) × (i ≤ length l) × (from + letters (drop from l) ≡ i + letters (drop i l))
@@ -18,19 +15,15 @@ Inv-loop l from i₀ i = (from ≤ i) × (i ≤ length l) × (from + letters (dr
 abbrev μ-loop : tie.MeasureT-loop
 μ-loop l from i₀ i = length l - i
 
--- src/reading.rt:72:5
 loop-holds : tie.Need-loop-holds Inv-loop μ-loop
 loop-holds c = search needs
 
--- src/reading.rt:73:21
 shared-slice-read-is-blank : tie.Need-shared-slice-read-is-blank Inv-loop μ-loop
 shared-slice-read-is-blank c = search needs
 
--- src/reading.rt:73:12
 is-blank-requires : tie.Need-is-blank-requires Inv-loop μ-loop
 is-blank-requires c κs = search needs
 
--- src/reading.rt:74:13
 returns : tie.Need-returns Inv-loop μ-loop
 returns c =
     let o = (c .before .before .before .before .loop) in
@@ -40,15 +33,12 @@ returns c =
     let z = letters-off l (o .i) h b in
     (omega (arith, o .inv .2, z), search needs)
 
--- src/reading.rt:76:9
 add-i : tie.Need-add-i Inv-loop μ-loop
 add-i c = search needs
 
--- src/reading.rt:72:5
 loop-less : tie.Need-loop-less Inv-loop μ-loop
 loop-less c = search needs
 
--- src/reading.rt:72:5
 loop-again : tie.Need-loop-again Inv-loop μ-loop
 loop-again c =
     let o = (c .before .before .before .before .loop) in
@@ -58,7 +48,6 @@ loop-again c =
     let z = letters-on l (o .i) h b in
     (omega arith, search needs, omega (arith, o .inv .2, z))
 
--- src/reading.rt:67:1
 returns-2 : tie.Need-returns-2 Inv-loop μ-loop
 returns-2 c =
     let o = (c .before .loop) in

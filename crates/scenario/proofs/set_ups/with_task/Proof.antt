@@ -1,8 +1,11 @@
--- `with_task` meets its contract. Assumes nothing.
 use borrow.Author.Needs.{needs}
+use native.Mathlib.Omega.{arith}
 use native.Mathlib.Numerals.{add-one}
 use Rattle.scenario.proofs.set_ups.with_task.Statement.{statement}
 use Rattle.scenario.proofs.set_ups.with_task.Tie as tie
+
+returns : tie.Need-returns
+returns c = λ h. absurd (omega (arith, h, (c .if1) .taken))
 
 mul-next : tie.Need-mul-next
 mul-next c = search needs
@@ -13,8 +16,8 @@ element-write-next c = search needs
 add-next : tie.Need-add-next
 add-next c = search needs
 
-returns : tie.Need-returns
-returns c = rw add-one
+returns-2 : tie.Need-returns-2
+returns-2 c = λ h. rw add-one
 
 pub with-task-spec : {M : Type 1} → statement M
-with-task-spec = tie.close (tie.spec mul-next element-write-next add-next returns)
+with-task-spec = tie.close (tie.spec returns mul-next element-write-next add-next returns-2)
