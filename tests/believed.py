@@ -28,9 +28,10 @@ PARTS = {
         'protocol': 'Words Ranks Situations Sound Refusals Locks Events',
     },
     'bytes and texts': {
+        'search': 'Texts',
         'input': 'Layout',
-        'blocks': 'Sizes Check Verdicts',
-        'texts': 'Texts Lines',
+        'blocks': 'Sizes Check Verdicts Files',
+        'texts': 'Lines',
         'stepping': 'Files',
     },
     'statements': {

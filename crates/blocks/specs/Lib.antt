@@ -3,3 +3,4 @@ pub mod OneByte
 pub mod Sizes
 pub mod Verdicts
 pub mod Numbers
+pub mod Files

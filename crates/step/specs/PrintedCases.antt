@@ -30,7 +30,8 @@ use Rattle.blocks.specs.Check.{sums, isChecked}
 use Rattle.blocks.specs.Verdicts.{isBlank, isSetUpFilled, isEventFilled, blockRows, verdict}
 use Rattle.search.specs.Texts.{codes, digits, eachText}
 use Rattle.texts.specs.Lines.{firstText, taskText, taskLineText, blockText, setUpText}
-use Rattle.stepping.specs.Files.{blocksOf, refusalOf, eventsFrom, answerText, endText, firstBlock, setUpOf, fileText}
+use Rattle.blocks.specs.Files.{blocksOf, refusalOf, eventsFrom, firstBlock, setUpOf}
+use Rattle.stepping.specs.Files.{answerText, endText, fileText}
 use Rattle.stepping.specs.Program.{Accepted}
 
 -- the number, the kind, the count; two processors, three tasks, one resource, no pair; the start, and the periods

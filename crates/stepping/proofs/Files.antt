@@ -33,7 +33,8 @@ use Rattle.blocks.specs.OneByte.{AreBytes}
 use Rattle.search.specs.Texts.{eachText}
 use Rattle.texts.specs.Lines.{firstText, blockText}
 use Rattle.stepping.specs.Pages.{beginning, nextPage}
-use Rattle.stepping.specs.Files.{blocksOf, refusalOf, partOf, eventsFrom, answersText, tasksText, endText, setUpOf, eventsOf, stateOf, fileState, fileText}
+use Rattle.blocks.specs.Files.{blocksOf, refusalOf, partOf, eventsFrom, setUpOf, eventsOf}
+use Rattle.stepping.specs.Files.{answersText, tasksText, endText, stateOf, fileState, fileText}
 use Rattle.stepping.specs.Program.{pages, printed, Begins, DemandsHold, PrintsTheRules, FilesPrintTheRules, Accepted, IsARun, AcceptedIsARun}
 use Rattle.stepping.specs.declared.Session.{Session}
 use Rattle.stepping.proofs.Answers.{answers-join}

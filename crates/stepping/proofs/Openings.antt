@@ -31,7 +31,8 @@ use Rattle.blocks.proofs.Numbers.{judge-none}
 use Rattle.blocks.proofs.Limits.{used-index, used-events}
 use Rattle.texts.specs.Lines.{firstText, blockText, setUpText}
 use Rattle.stepping.specs.Pages.{wide, beginning, nextPage}
-use Rattle.stepping.specs.Files.{refusalOf, partOf, answersText, tasksText}
+use Rattle.blocks.specs.Files.{refusalOf, partOf}
+use Rattle.stepping.specs.Files.{answersText, tasksText}
 use Rattle.stepping.specs.Program.{pages}
 use Rattle.stepping.specs.declared.Session.{Session}
 use Rattle.locking.proofs.Runs.{played-runs}

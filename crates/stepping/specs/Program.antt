@@ -12,7 +12,8 @@ use Rattle.protocol.specs.Demands.{Demand3, TotalsSum}
 use Rattle.blocks.specs.OneByte.{AreBytes}
 use Rattle.texts.specs.Lines.{firstText}
 use Rattle.stepping.specs.Pages.{beginning, nextPage}
-use Rattle.stepping.specs.Files.{blocksOf, refusalOf, firstBlock, setUpOf, eventsOf, stateOf, answersText, tasksText, fileState, fileText}
+use Rattle.blocks.specs.Files.{blocksOf, refusalOf, firstBlock, setUpOf, eventsOf}
+use Rattle.stepping.specs.Files.{stateOf, answersText, tasksText, fileState, fileText}
 use Rattle.stepping.specs.declared.Session.{Session}
 
 -- ---- the program: a page of each thing read, one behind another. The end of a file reads nothing.

@@ -1,0 +1,142 @@
+-- The grammar of a scenario: the items, and the one that a line is.
+use Prim.Native.Nat.{ℕ}
+use Prim.Native.String.{String}
+use mathlib.Core.Bool.{true, false, not, _||_}
+use mathlib.Core.List.{List, [], _∷_}
+use lib.Dec.{leb}
+use lib.ListN.{length, getD, drop}
+use Rattle.search.specs.Words.{if_then_else_, _is_}
+use Rattle.search.specs.First.{first}
+use Rattle.search.specs.Rows.{Row, _when_, _otherwise_, firstOf}
+use Rattle.search.specs.Texts.{codes, valueBehind}
+use Rattle.input.specs.Limits.{short, long}
+use Rattle.input.specs.Layout.{byte}
+use Rattle.input.specs.Kinds.{arrival, finish, request, completion, passing}
+use Rattle.scenario.specs.Words.{atSign, said, firstWord, behind, word, areSame, isNumber}
+use Rattle.scenario.specs.declared.Argument.{Argument}
+use Rattle.scenario.specs.declared.Item.{Item}
+use Rattle.scenario.specs.declared.Item.the-variants.{Blank, Processors, Start, Task, Resource, Pair, Happens, Block, Wrong}
+
+-- ---- what is wrong with a line whose first word is no item's name
+abbrev pub unknown : ℕ
+unknown = 1
+
+-- ---- the sorts of word behind an item's name: no word more, a number, a tick, a kind of resource. The number of a
+-- sort is also the reason of a line where a word is not of it
+abbrev pub noMore : ℕ
+noMore = 2
+
+abbrev pub aByte : ℕ
+aByte = 3
+
+abbrev pub aPeriod : ℕ
+aPeriod = 4
+
+abbrev pub aClock : ℕ
+aClock = 5
+
+abbrev pub aTick : ℕ
+aTick = 6
+
+abbrev pub aKind : ℕ
+aKind = 7
+
+-- the largest value of each
+unfoldable pub mostOf : ℕ → ℕ
+mostOf sort =
+    if sort is aByte then 255 else
+    if sort is aPeriod || sort is aTick then 65535 else
+    if sort is aClock then 4294967295 else
+    if sort is aKind then long else 0
+
+-- a word as one of a sort: whether it is one, and its value
+abbrev pub one : ℕ → Argument
+one value = record { right = true; value = value }
+
+abbrev pub notOne : Argument
+notOne = record { right = false; value = 0 }
+
+unfoldable pub numberIn : ℕ → List ℕ → Argument
+numberIn most w = if isNumber most w then one (valueBehind 0 w) else notOne
+
+unfoldable pub tickIn : List ℕ → Argument
+tickIn w = if byte w 0 is atSign then numberIn (mostOf aTick) (drop 1 w) else notOne
+
+unfoldable pub kindIn : List ℕ → Argument
+kindIn w = if areSame w (codes "short") then one short else if areSame w (codes "long") then one long else notOne
+
+unfoldable pub argumentOf : ℕ → List ℕ → Argument
+argumentOf sort w =
+    if sort is noMore then (if length w is 0 then one 0 else notOne) else
+    if sort is aTick then tickIn w else
+    if sort is aKind then kindIn w else
+    numberIn (mostOf sort) w
+
+-- ---- the items: an item's name, the sorts of what stands behind it, and what it says with these values
+pub record Entry : Type 0 where
+  pub name : List ℕ
+  pub sorts : List ℕ
+  pub says : (ℕ → ℕ) → Item
+
+abbrev pub entry : String → List ℕ → ((ℕ → ℕ) → Item) → Entry
+entry name sorts says = record { name = codes name; sorts = sorts; says = says }
+
+abbrev pub event : ℕ → ℕ → ℕ → ℕ → Item
+event kind task resource tick = Happens (record { kind = kind; task = task; resource = resource; tick = tick })
+
+abbrev pub items : List Entry
+items =
+    entry "processors" (aClock ∷ []) (λ v. Processors (v 0))
+    ∷ entry "start" (aClock ∷ []) (λ v. Start (v 0))
+    ∷ entry "task" (aPeriod ∷ []) (λ v. Task (v 0))
+    ∷ entry "resource" (aKind ∷ []) (λ v. Resource (v 0))
+    ∷ entry "pair" (aByte ∷ aByte ∷ []) (λ v. Pair (v 0) (v 1))
+    ∷ entry "arrive" (aByte ∷ aTick ∷ []) (λ v. event arrival (v 0) 0 (v 1))
+    ∷ entry "finish" (aByte ∷ aTick ∷ []) (λ v. event finish (v 0) 0 (v 1))
+    ∷ entry "request" (aByte ∷ aByte ∷ aTick ∷ []) (λ v. event request (v 0) (v 1) (v 2))
+    ∷ entry "complete" (aByte ∷ aByte ∷ aTick ∷ []) (λ v. event completion (v 0) (v 1) (v 2))
+    ∷ entry "pass" (aTick ∷ []) (λ v. event passing 0 0 (v 0))
+    ∷ entry "event" (aByte ∷ aByte ∷ aByte ∷ aTick ∷ []) (λ v. event (v 0) (v 1) (v 2) (v 3))
+    ∷ entry "block" [] (λ v. Block)
+    ∷ []
+
+abbrev pub itemCount : ℕ
+itemCount = 12
+
+-- ---- the item that a line is
+abbrev pub noEntry : Entry
+noEntry = entry "" [] (λ v. Wrong unknown)
+
+unfoldable pub entryAt : ℕ → Entry
+entryAt i = getD items i noEntry
+
+-- the item of a name, or past the last one
+unfoldable pub itemNamed : List ℕ → ℕ
+itemNamed w = first (λ i. areSame w (entryAt i .name)) 0 itemCount
+
+-- the sort of the word at place k behind a name, from 0 on
+unfoldable pub sortAt : ℕ → ℕ → ℕ
+sortAt i k = getD (entryAt i .sorts) k noMore
+
+module _ (i : ℕ) (rest : List ℕ) where
+  -- the word there, of what stands behind the name; and the row for one that is not of its sort
+  abbrev pub argumentAt : ℕ → Argument
+  argumentAt k = argumentOf (sortAt i k) (word k rest)
+
+  abbrev pub misfit : ℕ → Row
+  misfit k = sortAt i k when not (argumentAt k .right)
+
+  unfoldable pub wrongRows : List Row
+  wrongRows =
+      unknown when leb itemCount i otherwise
+      misfit 0 otherwise misfit 1 otherwise misfit 2 otherwise misfit 3 otherwise misfit 4 otherwise
+      []
+
+  unfoldable pub itemBehind : Item
+  itemBehind = if firstOf wrongRows is 0 then entryAt i .says (λ k. argumentAt k .value) else Wrong (firstOf wrongRows)
+
+unfoldable pub itemIn : List ℕ → Item
+itemIn l = if length (firstWord l) is 0 then Blank else itemBehind (itemNamed (firstWord l)) (behind l)
+
+abbrev pub itemOf : List ℕ → Item
+itemOf line = itemIn (said line)

@@ -1,0 +1,92 @@
+-- A whole scenario: what its items say, the blocks that they write, and the theorem that these say the same.
+use Prim.Native.Nat.{ℕ, _<_}
+use mathlib.Core.Path.{_≡_}
+use mathlib.Core.Bool.{Bool, true, false}
+use mathlib.Core.List.{List, [], _∷_, _++_, map}
+use lib.ListN.{length, getD, replicate}
+use Rattle.input.specs.Words.{noSetUp}
+use Rattle.input.specs.declared.SetUp.{SetUp}
+use Rattle.input.specs.declared.Event.{Event}
+use Rattle.setups.specs.Clearing.{cleared}
+use Rattle.setups.specs.Refusals.{setUpRefusal}
+use Rattle.blocks.specs.Sizes.{blockSize}
+use Rattle.blocks.specs.Files.{refusalOf, setUpOf, eventsOf}
+use Rattle.scenario.specs.SetUps.{withProcessors, withStart, withTask, withResource, withPair}
+use Rattle.scenario.specs.Items.{itemOf}
+use Rattle.scenario.specs.Drafts.{noDraft, taken}
+use Rattle.scenario.specs.declared.Item.{Item}
+use Rattle.scenario.specs.declared.Item.the-variants.{Blank, Processors, Start, Task, Resource, Pair, Happens, Block, Wrong}
+use Rattle.scenario.specs.declared.Draft.{Draft}
+use Rattle.scenario.specs.declared.Told.{Told}
+use Rattle.scenario.specs.declared.Told.the-variants.{Kept, Written, Faulty, Refused}
+
+-- ---- what items say, in order: a set-up, and events
+unfoldable pub setUpWith : Item → SetUp → SetUp
+setUpWith Blank c = c
+setUpWith (Processors n) c = withProcessors c n
+setUpWith (Start n) c = withStart c n
+setUpWith (Task period) c = withTask c period
+setUpWith (Resource kind) c = withResource c kind
+setUpWith (Pair outer inner) c = withPair c outer inner
+setUpWith (Happens e) c = c
+setUpWith Block c = c
+setUpWith (Wrong reason) c = c
+
+unfoldable pub setUpSaid : SetUp → List Item → SetUp
+setUpSaid c [] = c
+setUpSaid c (item ∷ items) = setUpSaid (setUpWith item c) items
+
+unfoldable pub eventsWith : Item → List Event → List Event
+eventsWith Blank es = es
+eventsWith (Processors n) es = es
+eventsWith (Start n) es = es
+eventsWith (Task period) es = es
+eventsWith (Resource kind) es = es
+eventsWith (Pair outer inner) es = es
+eventsWith (Happens e) es = e ∷ es
+eventsWith Block es = es
+eventsWith (Wrong reason) es = es
+
+unfoldable pub eventsSaid : List Item → List Event
+eventsSaid [] = []
+eventsSaid (item ∷ items) = eventsWith item (eventsSaid items)
+
+-- ---- the blocks that items write, from a draft on, up to the first that is faulty or refused; and whether none is
+pub record Blocks : Type 0 where
+  pub all : Bool
+  pub blocks : List (List ℕ)
+
+-- what was told of an item, with the block written, before the blocks of the later items
+unfoldable pub before : Told → List ℕ → Blocks → Blocks
+before Kept block rest = rest
+before Written block rest = record { all = rest .all; blocks = block ∷ rest .blocks }
+before (Faulty reason) block rest = record { all = false; blocks = [] }
+before (Refused number) block rest = record { all = false; blocks = [] }
+
+abbrev pub lent : List ℕ
+lent = replicate blockSize 0
+
+unfoldable pub blocksFrom : Draft → List Item → Blocks
+blocksFrom d [] = record { all = true; blocks = [] }
+blocksFrom d (item ∷ items) =
+    let t = taken d item lent in
+    before (t .0 .told) (t .1) (blocksFrom (t .0 .draft) items)
+
+-- of a scenario's lines; at its end it is as if `block` stood there
+abbrev pub itemsOf : List (List ℕ) → List Item
+itemsOf lines = map itemOf lines
+
+abbrev pub blocksMade : List (List ℕ) → Blocks
+blocksMade lines = blocksFrom noDraft (itemsOf lines ++ (Block ∷ []))
+
+-- ---- a scenario with no line that is faulty or refused: the reader accepts each block, and reads the set-up and the
+-- events that the lines say, places past the counts being 0
+pub record IsMade (lines : List (List ℕ)) : Type 0 where
+  pub accepted : (i : ℕ) → i < length (blocksMade lines .blocks)
+      → refusalOf (getD (blocksMade lines .blocks) i []) i ≡ 0
+  pub setup : setUpOf (blocksMade lines .blocks) ≡ cleared (setUpSaid noSetUp (itemsOf lines))
+  pub free : setUpRefusal (setUpSaid noSetUp (itemsOf lines)) ≡ 0
+  pub events : eventsOf (blocksMade lines .blocks) ≡ eventsSaid (itemsOf lines)
+
+abbrev pub MadeReadsBack : Type 0
+MadeReadsBack = (lines : List (List ℕ)) → blocksMade lines .all ≡ true → IsMade lines

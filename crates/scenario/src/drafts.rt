@@ -1,0 +1,232 @@
+// A file in the making: what each item does to it, and the block that it writes, if any.
+use crate::Draft;
+use crate::Item;
+use crate::Taken;
+use crate::Told;
+use crate::set_ups::with_pair;
+use crate::set_ups::with_processors;
+use crate::set_ups::with_resource;
+use crate::set_ups::with_start;
+use crate::set_ups::with_task;
+use input::Event;
+use input::SetUp;
+use writer::Events;
+ghost use mathlib.Core.Path.{_≡_};
+ghost use Prim.Native.Nat.{_<_};
+ghost use lib.Dec.{leb};
+ghost use Rattle.input.specs.Limits.{mostTasks, mostResources, mostPairs};
+ghost use Rattle.blocks.specs.Sizes.{mostEvents};
+ghost use Rattle.scenario.specs.SetUps.{withTask, withResource, withPair};
+ghost use Rattle.scenario.specs.Drafts.{twice, full, noEvents, adding, noDraft, sizedBy, startedAt, withSetUp, settled, setUpEnds, blockEnds, eventTaken, blockTaken, taken};
+ghost use Rattle.scenario.specs.Drafts as spec;
+
+fn no_events() -> Events
+    ensures { λ r. ⌜ r ≡ noEvents ⌝ }
+{
+    Events {
+        of: [Event::NONE; Events::MOST],
+        count: 0,
+    }
+}
+
+fn with_event(events: Events, e: Event) -> Events
+    requires { ⌜ events .count < mostEvents ⌝ }
+    ensures { λ r. ⌜ r ≡ adding e events ⌝ }
+{
+    let mut next = events;
+    let n = events.count;
+    next.of[n] = e;
+    next.count = n + 1;
+    next
+}
+
+// Nothing is given yet.
+pub fn begin() -> Draft
+    ensures { λ r. ⌜ r ≡ noDraft ⌝ }
+{
+    Draft {
+        setup: SetUp::none(),
+        sized: false,
+        started: false,
+        index: 0,
+        events: no_events(),
+    }
+}
+
+fn kept(next: Draft) -> Taken
+    ensures { λ r. ⌜ r ≡ spec.kept next ⌝ }
+{
+    Taken {
+        draft: next,
+        told: Told::Kept,
+    }
+}
+
+fn faulty(draft: Draft, reason: u8) -> Taken
+    ensures { λ r. ⌜ r ≡ spec.faulty draft reason ⌝ }
+{
+    Taken {
+        draft,
+        told: Told::Faulty(reason),
+    }
+}
+
+fn with_set_up(draft: Draft, setup: SetUp) -> Draft
+    ensures { λ r. ⌜ r ≡ withSetUp draft setup ⌝ }
+{
+    let mut next = draft;
+    next.setup = setup;
+    next
+}
+
+// With block `index` begun, and these events in it.
+fn filling(draft: Draft, index: u64, events: Events) -> Draft
+    ensures { λ r. ⌜ r ≡ spec.filling draft index events ⌝ }
+{
+    let mut next = draft;
+    next.index = index;
+    next.events = events;
+    next
+}
+
+// ---- the items of the set-up
+// An item of the set-up, which gives the next draft where it comes before the set-up's end and nothing bars it.
+fn settle(draft: Draft, reason: u8, bars: bool, next: Draft) -> Taken
+    ensures { λ r. ⌜ r ≡ settled draft reason bars next ⌝ }
+{
+    if draft.index != 0 {
+        return faulty(draft, Item::LATE);
+    }
+    if bars {
+        return faulty(draft, reason);
+    }
+    kept(next)
+}
+
+fn take_processors(draft: Draft, n: u32) -> Taken
+    ensures { λ r. ⌜ r ≡ settled draft twice (draft .sized) (sizedBy draft n) ⌝ }
+{
+    let mut next = with_set_up(draft, with_processors(draft.setup, n as usize));
+    next.sized = true;
+    settle(draft, Item::TWICE, draft.sized, next)
+}
+
+fn take_start(draft: Draft, start: u32) -> Taken
+    ensures { λ r. ⌜ r ≡ settled draft twice (draft .started) (startedAt draft start) ⌝ }
+{
+    let mut next = with_set_up(draft, with_start(draft.setup, start));
+    next.started = true;
+    settle(draft, Item::TWICE, draft.started, next)
+}
+
+fn take_task(draft: Draft, period: u16) -> Taken
+    ensures { λ r. ⌜ r ≡ settled draft full (leb mostTasks (draft .setup .tasks))
+        (withSetUp draft (withTask (draft .setup) period)) ⌝ }
+{
+    let setup = draft.setup;
+    let next = with_set_up(draft, with_task(setup, period));
+    settle(draft, Item::FULL, SetUp::TASKS <= setup.tasks, next)
+}
+
+fn take_resource(draft: Draft, kind: u8) -> Taken
+    ensures { λ r. ⌜ r ≡ settled draft full (leb mostResources (draft .setup .resources))
+        (withSetUp draft (withResource (draft .setup) kind)) ⌝ }
+{
+    let setup = draft.setup;
+    let next = with_set_up(draft, with_resource(setup, kind));
+    settle(draft, Item::FULL, SetUp::RESOURCES <= setup.resources, next)
+}
+
+fn take_pair(draft: Draft, outer: u8, inner: u8) -> Taken
+    ensures { λ r. ⌜ r ≡ settled draft full (leb mostPairs (draft .setup .pairs))
+        (withSetUp draft (withPair (draft .setup) outer inner)) ⌝ }
+{
+    let setup = draft.setup;
+    let next = with_set_up(draft, with_pair(setup, outer, inner));
+    settle(draft, Item::FULL, SetUp::PAIRS <= setup.pairs, next)
+}
+
+// ---- the blocks
+// A block was written, or its refusal was answered.
+fn answered(draft: Draft, next: Draft, number: u8) -> Taken
+    ensures { λ r. ⌜ r ≡ spec.answered draft next number ⌝ }
+{
+    if number == 0 {
+        Taken {
+            draft: next,
+            told: Told::Written,
+        }
+    } else {
+        Taken {
+            draft,
+            told: Told::Refused(number),
+        }
+    }
+}
+
+// The set-up ends, and block 1 begins with these events.
+fn end_set_up(draft: Draft, events: Events, out: &mut [u8]) -> Taken
+    ensures { λ r. ⌜ (r, now (out .exit)) ≡ setUpEnds draft events (now (out .entry)) ⌝ }
+{
+    if draft.sized {
+        let number = writer::write_set_up(draft.setup, out);
+        return answered(draft, filling(draft, 1, events), number);
+    }
+    faulty(draft, Item::MISSING)
+}
+
+// A block of events ends, and the next one begins with these.
+fn end_block(draft: Draft, events: Events, out: &mut [u8]) -> Taken
+    ensures { λ r. ⌜ (r, now (out .exit)) ≡ blockEnds draft events (now (out .entry)) ⌝ }
+{
+    let index = draft.index;
+    let number = writer::write_events(draft.events, index, out);
+    if number != 0 {
+        return answered(draft, draft, number);
+    }
+    // A block that is written has an index that another can follow.
+    answered(draft, filling(draft, index + 1, events), number)
+}
+
+fn take_event(draft: Draft, e: Event, out: &mut [u8]) -> Taken
+    ensures { λ r. ⌜ (r, now (out .exit)) ≡ eventTaken draft e (now (out .entry)) ⌝ }
+{
+    let events = draft.events;
+    if draft.index == 0 {
+        return end_set_up(draft, with_event(no_events(), e), out);
+    }
+    if Events::MOST <= events.count {
+        return end_block(draft, with_event(no_events(), e), out);
+    }
+    kept(filling(draft, draft.index, with_event(events, e)))
+}
+
+fn take_block(draft: Draft, out: &mut [u8]) -> Taken
+    ensures { λ r. ⌜ (r, now (out .exit)) ≡ blockTaken draft (now (out .entry)) ⌝ }
+{
+    let events = draft.events;
+    if draft.index == 0 {
+        return end_set_up(draft, no_events(), out);
+    }
+    if events.count == 0 {
+        return kept(draft);
+    }
+    end_block(draft, no_events(), out)
+}
+
+// Takes an item. The block that it completes, if any, is written into `out`, which stays as lent otherwise.
+pub fn take_item(draft: Draft, item: Item, out: &mut [u8]) -> Taken
+    ensures { λ r. ⌜ (r, now (out .exit)) ≡ taken draft item (now (out .entry)) ⌝ }
+{
+    match item {
+        Item::Blank => kept(draft),
+        Item::Processors(n) => take_processors(draft, n),
+        Item::Start(start) => take_start(draft, start),
+        Item::Task(period) => take_task(draft, period),
+        Item::Resource(kind) => take_resource(draft, kind),
+        Item::Pair(outer, inner) => take_pair(draft, outer, inner),
+        Item::Happens(e) => take_event(draft, e, out),
+        Item::Block => take_block(draft, out),
+        Item::Wrong(reason) => faulty(draft, reason),
+    }
+}
