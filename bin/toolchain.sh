@@ -1,4 +1,4 @@
-# Read by bin/step and bench/run: where the Rattle toolchain is, and how one of its programs is run on this machine.
+# Read by bin/step, bin/make and bench/run: where the Rattle toolchain is, and how one of its programs is run on this machine.
 
 die() { printf '%s: %s\n' "${0##*/}" "$*" >&2; exit 2; }
 
@@ -25,13 +25,19 @@ run_program() { # FILE
     ${emulator:+"$emulator"} "$loader" --library-path "$tools/lib" "$1"
 }
 
-# Proves and builds the stepping program, where it is not there or older than a source.
-build_step() {
-    step=$root/target/bin/step built=$root/target/step.built
-    if [ -f "$step" ] && [ -f "$built" ] && [ -z "$(find "$root/crates" "$root/crates.txt" -newer "$built" | head -n 1)" ]; then
+# Proves and builds a program, where it is not there or older than a source; its place goes to `program`.
+build_program() { # NAME
+    program=$root/target/bin/$1 built=$root/target/$1.built
+    if [ -f "$program" ] && [ -f "$built" ] && [ -z "$(find "$root/crates" "$root/crates.txt" -newer "$built" | head -n 1)" ]; then
         return
     fi
     printf '%s\n' "${0##*/}: building the program; every crate below it is proved first, which takes some minutes" >&2
-    (cd "$root" && rt check step </dev/null) >&2 || die 'the program was not built: see above'
+    (cd "$root" && rt check "$1" </dev/null) >&2 || die 'the program was not built: see above'
     : >"$built"
+}
+
+# A file that is named becomes standard input.
+read_from() { # FILE
+    [ -r "$1" ] && [ ! -d "$1" ] || die "cannot read $1"
+    exec <"$1"
 }

@@ -5,9 +5,10 @@
     python3 tests/believed.py check    whether README.md and docs/TOUR.md give these sums, every file is in a part, and
                                        the believed ones rest on each other alone
 
-Whoever believes the rules and the bytes and texts knows what the program prints of a file: the theorems say so. The
-statements are what the theorems promise; the calls are what a caller of the library must read besides. Private
-definitions are cited by contracts that no other crate can see, or by laws alone: nothing of them has to be believed.
+Whoever believes the rules and the bytes and texts knows what the stepping program prints of a file: the theorems say
+so; who believes the scenarios and their blocks besides knows what bin/make makes of a text. The statements are what the
+theorems promise; the calls are what a caller of the library must read besides. Private definitions are cited by
+contracts that no other crate can see, or by laws alone: nothing of them has to be believed.
 """
 
 import re
@@ -34,6 +35,10 @@ PARTS = {
         'texts': 'Lines',
         'stepping': 'Files',
     },
+    'scenarios and their blocks': {
+        'writer': 'Sealed Written SetUpBlocks EventBlocks',
+        'scenario': 'Words Items SetUps Drafts',
+    },
     'statements': {
         'search': 'Numbered',
         'queue': 'Tidy',
@@ -42,6 +47,8 @@ PARTS = {
         'soundness': 'Parts',
         'protocol': 'Numbers Demands Cases Impostors',
         'blocks': 'OneByte Numbers',
+        'writer': 'RoundTrip Numbers',
+        'scenario': 'Made',
         'texts': 'Values',
         'lines': 'Numbers',
         'stepping': 'Program',
@@ -62,9 +69,10 @@ PARTS = {
         'protocol': 'Edited',
         'soundness': 'Opens',
         'locking': 'Acting Steps',
+        'scenario': 'Reads',
     },
 }
-BELIEVED = ('rules', 'bytes and texts')
+BELIEVED = ('rules', 'bytes and texts', 'scenarios and their blocks')
 NO_DEFINITION = re.compile(r'(use|pub mod|unfolding|infix[lr]?) ')
 IMPORT = re.compile(r'^use Rattle·(\w+?)(?:·specs)?[.]specs[.](\w+)[.]', re.MULTILINE)
 
@@ -85,8 +93,9 @@ def rests_on(name):
     """The files of definitions that a file of definitions imports from."""
     text = (ROOT / name).read_text(encoding='utf-8')
     for crate, module in IMPORT.findall(text):
-        if module != 'declared':
-            yield f'crates/{crate}/specs/{module}.antt'
+        name = f'crates/{crate}/specs/{module}.antt'
+        if module != 'declared' and (ROOT / name).is_file():    # what is not here is the toolchain's
+            yield name
 
 
 def total(part):

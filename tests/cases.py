@@ -162,7 +162,33 @@ def stored():
         'crates/edges/stdout': (stdout + calls.expected()).encode(),
         'crates/step/stdin': CASES[0].data,
         'crates/step/stdout': PRINTED[1:].encode(),
+        'crates/make/stdin': EVERY_ITEM,
+        'crates/make/stdout': file_of(EVERY_ITEM),
     }
+
+
+# A scenario with every item, lines of both ends, tabs, remarks, and an event that the rules would refuse.
+EVERY_ITEM = b'''\
+# The set-up.
+processors 2
+start 65530\r
+task 100
+\ttask\t200
+task 0050      # leading zeros count for nothing
+resource short
+resource short#a remark needs no space before it
+resource long
+pair 0 1
+
+arrive 0 @65530
+request 1 0 @65535
+complete 1 0 @9
+finish 2 @12
+block
+pass @20
+event 7 1 2 @5
+block
+block'''
 
 
 def judge_indexes():
