@@ -16,6 +16,9 @@ const LINE_FEED: u8 = 10;
 // The buffer for the text: a line and its line feed fit.
 const TEXT: usize = 65536;
 
+// Every turn but the last reads a byte or more, so that no text takes as many: all that 64 bits hold.
+const MOST_TURNS: u64 = 18446744073709551615;
+
 // A scenario half read: the draft of its file, how many lines were read, and whether the output has ended.
 struct Making {
     draft: Draft,
@@ -137,8 +140,7 @@ fn main() {
         lines: 0,
         over: false,
     };
-    // Every turn but the last reads a byte or more, so that no text has as many.
-    let mut turns = 18446744073709551615u64;
+    let mut turns = MOST_TURNS;
     while turns > 0 && !making.over {
         turns -= 1;
         if held == TEXT {

@@ -18,6 +18,13 @@ pub record IsRead (l : List ℕ) (at sort : ℕ) (r : Read) : Type 0 where
 abbrev pub formOf : ℕ → Form
 formOf i = record { 0 = sortAt i 0; 1 = sortAt i 1; 2 = sortAt i 2; 3 = sortAt i 3 }
 
+-- the items from `arrive` to `event` are events
+abbrev pub arriveItem : ℕ
+arriveItem = 5
+
+abbrev pub eventItem : ℕ
+eventItem = 10
+
 -- values of these sorts, and what the item says with them
 abbrev pub Fit : ℕ → ℕ → ℕ → ℕ → ℕ → Type 0
 Fit i a b c d =

@@ -14,7 +14,7 @@ ghost use mathlib.Core.Bool.{not};
 ghost use lib.ListN.{length, drop};
 ghost use Rattle.search.specs.Words.{if_then_else_};
 ghost use Rattle.scenario.specs.Items.{itemCount, itemNamed, itemBehind, itemIn, itemOf};
-ghost use Rattle.scenario.specs.Reads.{formOf, Fit, Says};
+ghost use Rattle.scenario.specs.Reads.{formOf, arriveItem, eventItem, Fit, Says};
 ghost use Rattle.scenario.specs.Items as spec;
 
 // The items' names, by number, and how many there are.
@@ -44,7 +44,7 @@ const BLOCK: usize = 11;
 
 const ITEMS: usize = 12;
 
-// What stands behind a name: nothing, a number, or words and a tick.
+// What stands behind a name: the sorts of up to four words.
 const NOTHING: Form = Form(Form::NO_MORE, Form::NO_MORE, Form::NO_MORE, Form::NO_MORE);
 
 const A_CLOCK: Form = Form(Form::CLOCK, Form::NO_MORE, Form::NO_MORE, Form::NO_MORE);
@@ -53,29 +53,30 @@ const A_PERIOD: Form = Form(Form::PERIOD, Form::NO_MORE, Form::NO_MORE, Form::NO
 
 const A_KIND: Form = Form(Form::KIND, Form::NO_MORE, Form::NO_MORE, Form::NO_MORE);
 
-const TWO: Form = Form(Form::BYTE, Form::BYTE, Form::NO_MORE, Form::NO_MORE);
+const TWO_BYTES: Form = Form(Form::BYTE, Form::BYTE, Form::NO_MORE, Form::NO_MORE);
 
-const AT: Form = Form(Form::TICK, Form::NO_MORE, Form::NO_MORE, Form::NO_MORE);
+const A_TICK: Form = Form(Form::TICK, Form::NO_MORE, Form::NO_MORE, Form::NO_MORE);
 
-const ONE_AT: Form = Form(Form::BYTE, Form::TICK, Form::NO_MORE, Form::NO_MORE);
+const BYTE_TICK: Form = Form(Form::BYTE, Form::TICK, Form::NO_MORE, Form::NO_MORE);
 
-const TWO_AT: Form = Form(Form::BYTE, Form::BYTE, Form::TICK, Form::NO_MORE);
+const TWO_BYTES_TICK: Form = Form(Form::BYTE, Form::BYTE, Form::TICK, Form::NO_MORE);
 
-const THREE_AT: Form = Form(Form::BYTE, Form::BYTE, Form::BYTE, Form::TICK);
+const THREE_BYTES_TICK: Form = Form(Form::BYTE, Form::BYTE, Form::BYTE, Form::TICK);
 
-// By item.
+// By item, in the order of their names.
 const FORMS: [Form; ITEMS] = [
     A_CLOCK,
     A_CLOCK,
     A_PERIOD,
     A_KIND,
-    TWO,
-    ONE_AT,
-    ONE_AT,
-    TWO_AT,
-    TWO_AT,
-    AT,
-    THREE_AT,
+    TWO_BYTES,
+    // From here on events, and `block` last.
+    BYTE_TICK,
+    BYTE_TICK,
+    TWO_BYTES_TICK,
+    TWO_BYTES_TICK,
+    A_TICK,
+    THREE_BYTES_TICK,
     NOTHING,
 ];
 
@@ -128,7 +129,7 @@ fn event(kind: u8, task: u8, resource: u8, tick: u16) -> Item
 }
 
 fn event_said(item: usize, a: u32, b: u32, c: u32, d: u32) -> Item
-    requires { ⌜ (5 ≤ item) × (item ≤ 10) × Fit item a b c d ⌝ }
+    requires { ⌜ (arriveItem ≤ item) × (item ≤ eventItem) × Fit item a b c d ⌝ }
     ensures { λ r. ⌜ Says item a b c d r ⌝ }
 {
     if item == ARRIVE {

@@ -58,15 +58,15 @@ impl Form {
 pub struct Form(pub u8, pub u8, pub u8, pub u8);
 
 // A word as one of a sort: whether it is one, and its value.
-pub struct Argument {
-    pub right: bool,
-    pub value: u32,
+struct Argument {
+    right: bool,
+    value: u32,
 }
 
 // An argument that was read from a line, and the place behind it.
-pub struct Read {
-    pub argument: Argument,
-    pub end: usize,
+struct Read {
+    argument: Argument,
+    end: usize,
 }
 
 // A file in the making: its set-up so far; whether its processors and its start are given; the index of the block being

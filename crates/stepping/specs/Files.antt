@@ -45,7 +45,8 @@ module _ (blocks : List (List ℕ)) where
 
   -- the state at the end; a file without an accepted set-up leaves the empty one
   unfoldable pub fileState : State
-  fileState = if refusalOf (firstBlock blocks) 0 is 0 && setUpRefusal (setUpOf blocks) is 0 then stateOf else fresh noSetUp
+  fileState =
+      if refusalOf (firstBlock blocks) 0 is 0 && setUpRefusal (setUpOf blocks) is 0 then stateOf else fresh noSetUp
 
   unfoldable pub fileText : List ℕ
   fileText =
