@@ -203,8 +203,17 @@ def judge_indexes():
     assert verdict(event_block(1_000_000)[:-1], 1_000_000) == 30
 
 
+def judge_printed():
+    """The scenario in docs/ is that of the printed case, and README.md shows it."""
+    text = (ROOT / 'docs/printed.scenario').read_bytes()
+    assert file_of(text) == CASES[0].data
+    shown = ''.join(f'    {line}'.rstrip() + '\n' for line in text.decode().splitlines())
+    assert shown in (ROOT / 'README.md').read_text(encoding='utf-8')
+
+
 def main(command):
     judge_indexes()
+    judge_printed()
     files = stored()
     differing = 0
     if command == 'list':
