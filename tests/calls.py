@@ -256,6 +256,30 @@ EVENTS_WRITTEN = [
     kept(37), kept(37), kept(37),
 ]
 
+# What becomes of a scenario's line, and whether a block is written. A faulty line has its reason, as docs/DECISIONS.md
+# and crates/scenario/src/lib.rt number them: 1 unknown; 2 a word too many; 3 no byte, 4 no period, 5 no clock, 6 no
+# tick, 7 no kind; 8 behind the set-up's end, 9 twice, 11 the processors missing.
+KEPT, WRITTEN = 'kept 0', 'written 1'
+
+
+def faulty(reason):
+    return f'faulty {reason} 0'
+
+
+SCENARIO_LINES = [
+    # Words: an unknown name; a period too large, and one in a remark; a second period; a start too large; a kind, a
+    # byte, a tick without its sign and one too large; a sign; a fifth word behind `event`.
+    faulty(1), faulty(4), faulty(4), faulty(2), faulty(5), faulty(7), faulty(3), faulty(6), faulty(6), faulty(3), faulty(2),
+    # An event and `block` before the processors; these, and again; start, and again; a blank line, a remark, a task.
+    faulty(11), faulty(11), KEPT, faulty(9), KEPT, faulty(9), KEPT, KEPT, KEPT,
+    # The first event ends the set-up: block 0. A task and a start behind it. An event, `block`, and `block` again.
+    WRITTEN, faulty(8), faulty(8), KEPT, WRITTEN, KEPT,
+    # An event, and the end.
+    KEPT, WRITTEN,
+    # A set-up that is refused with 4 at an event, at `block` and at the end.
+    KEPT, KEPT, KEPT, 'refused 4 0', 'refused 4 0', 'refused 4 0',
+]
+
 
 def expected():
     rows = [f'call {n} {told}' for n, told in enumerate(CALLS, 1)]
@@ -266,4 +290,5 @@ def expected():
     rows += [f'write set-up {told}' for told in SET_UPS_WRITTEN]
     rows += [f'past counts {PAST_COUNTS}']
     rows += [f'write events {told}' for told in EVENTS_WRITTEN]
+    rows += [f'line {told}' for told in SCENARIO_LINES]
     return ''.join(f'{row}\n' for row in rows)

@@ -8,6 +8,7 @@ mod hostile;
 mod pages;
 mod parts;
 mod printed;
+mod scenarios;
 mod telling;
 mod writing;
 
@@ -18,4 +19,5 @@ fn main() {
     pages::run_all();
     parts::run_all();
     writing::run_all();
+    scenarios::run_all();
 }

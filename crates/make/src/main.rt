@@ -16,8 +16,8 @@ const LINE_FEED: u8 = 10;
 // The buffer for the text: a line and its line feed fit.
 const TEXT: usize = 65536;
 
-// Every turn but the last reads a byte or more, so that no text takes as many: all that 64 bits hold.
-const MOST_TURNS: u64 = 18446744073709551615;
+// Every turn but the last reads a byte or more, so that no text takes as many.
+const MOST_TURNS: u64 = u64::MAX;
 
 // A scenario half read: the draft of its file, how many lines were read, and whether the output has ended.
 struct Making {

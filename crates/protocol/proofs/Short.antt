@@ -44,9 +44,6 @@ use Rattle.protocol.proofs.Stays.{Same, step-stays}
 
 -- ---- an accepted event
 module _ (s : State) (e : Event) (Q : Sound s) (ok : judge s e ≡ 0) where
-  abbrev c : SetUp
-  c = s .setup
-
   abbrev t : ℕ
   t = e .task
 
@@ -56,17 +53,17 @@ module _ (s : State) (e : Event) (Q : Sound s) (ok : judge s e ≡ 0) where
   abbrev s₁ : State
   s₁ = charged (stepOf s e) s
 
-  g-in : (asking ≤ e .kind) × (e .kind ≤ completion) → groupOf c r < mostResources
+  g-in : (asking ≤ e .kind) × (e .kind ≤ completion) → groupOf (s .setup) r < mostResources
   g-in k = let G = grouped s e Q ok in omega (arith, G .low r (row12 s e Q ok k), G .few-resources)
 
-  g-there : (asking ≤ e .kind) × (e .kind ≤ completion) → groupOf c r < length (s₁ .groups)
+  g-there : (asking ≤ e .kind) × (e .kind ≤ completion) → groupOf (s .setup) r < length (s₁ .groups)
   g-there k = omega (arith, g-in k, steady-of s e Q ok .sized .groups)
 
   tidy : (a : ℕ) → Tidy (group s₁ a .queue)
   tidy = steady-of s e Q ok .blank .queues
 
   -- whether the completed request was the outermost does not turn on the ticks
-  same-open : e .kind ≡ completion → openOfKind c (closes t s₁) t r ≡ openOfKind c (closes t s) t r
+  same-open : e .kind ≡ completion → openOfKind (s .setup) (closes t s₁) t r ≡ openOfKind (s .setup) (closes t s) t r
   unfolding openOfKind
   same-open k =
       let S = Q .steady in
@@ -75,13 +72,13 @@ module _ (s : State) (e : Event) (Q : Sound s) (ok : judge s e ≡ 0) where
       let A = ends-of s e Q ok k in
       let g-low = g-in (omega arith) in
       let t-in : t < mostTasks = omega (arith, row11 s e Q ok (omega arith), grouped s e Q ok .few-tasks) in
-      let E = closes-view c s (S .sized) (S .blank) (groupOf c r) g-low t (A .left) t-in (sym (same .deep) ∙ A .some) (S .locks .tasks t .opened .few) in
-      let E₁ = closes-view c s₁ (S₁ .sized) (S₁ .blank) (groupOf c r) g-low t (A .left) t-in (A .some) (S₁ .locks .tasks t .opened .few) in
+      let E = closes-view (s .setup) s (S .sized) (S .blank) (groupOf (s .setup) r) g-low t (A .left) t-in (sym (same .deep) ∙ A .some) (S .locks .tasks t .opened .few) in
+      let E₁ = closes-view (s .setup) s₁ (S₁ .sized) (S₁ .blank) (groupOf (s .setup) r) g-low t (A .left) t-in (A .some) (S₁ .locks .tasks t .opened .few) in
       let deep : depth (closes t s₁) t ≡ depth (closes t s) t = omega (arith, E .deep, E₁ .deep, same .deep) in
-      rw deep (anyBelow-same _ _ _ (λ i l. ap (λ (x : ℕ). kind c x is kind c r) (E₁ .old i (omega arith) ∙ same .requested i ∙ sym (E .old i l))))
+      rw deep (anyBelow-same _ _ _ (λ i l. ap (λ (x : ℕ). kind (s .setup) x is kind (s .setup) r) (E₁ .old i (omega arith) ∙ same .requested i ∙ sym (E .old i l))))
 
   -- what the test says of an accepted completion
-  hands-is : e .kind ≡ completion → (g : ℕ) (b : Bool) → handsOver s e g ≡ b → (groupOf c r is g && not (openOfKind c (closes t s₁) t r)) ≡ b
+  hands-is : e .kind ≡ completion → (g : ℕ) (b : Bool) → handsOver s e g ≡ b → (groupOf (s .setup) r is g && not (openOfKind (s .setup) (closes t s₁) t r)) ≡ b
   unfolding handsOver
   hands-is k g b q = rw (same-open k) (rw (eq-eqb _ _ ok, eq-eqb _ _ k) at q)
 
@@ -90,8 +87,8 @@ module _ (s : State) (e : Event) (Q : Sound s) (ok : judge s e ≡ 0) where
     aged = same-before s s₁ (same-lines s (stepOf s e) (Q .steady .sized)) g w
 
     -- what the event does to the groups decides
-    place-of : Before (edited c e s₁) g w n → Before s′ g w n
-    place-of y = by-edit (λ x. Before x g w n) s e s′ D (λ p. same-before _ _ (with-group c (edited c e s₁) p) g w n y)
+    place-of : Before (edited (s .setup) e s₁) g w n → Before s′ g w n
+    place-of y = by-edit (λ x. Before x g w n) s e s′ D (λ p. same-before _ _ (with-group (s .setup) (edited (s .setup) e s₁) p) g w n y)
 
     place-kept : w ≢ nobody → handsOver s e g ≡ false → Before s g w n → Before s′ g w n
     place-kept some q x =
@@ -99,24 +96,24 @@ module _ (s : State) (e : Event) (Q : Sound s) (ok : judge s e ≡ 0) where
         place-of (edited-by s e Q ok (λ z. Before z g w n)
         (λ _. same-before s₁ _ (λ b. same-group s₁ _ b refl) g w n y)
         (λ _. same-before s₁ _ (λ b. same-group s₁ _ b refl) g w n y)
-        (λ k. request-before c t r s₁ (g-there (omega arith)) tidy (steady-of s e Q ok) (asks-of s e Q ok k) g w n some y)
-        (λ k. completed (g-there (omega arith)) (hands-is k g false q) y (openOfKind c (closes t s₁) t r) refl)
+        (λ k. request-before (s .setup) t r s₁ (g-there (omega arith)) tidy (steady-of s e Q ok) (asks-of s e Q ok k) g w n some y)
+        (λ k. completed (g-there (omega arith)) (hands-is k g false q) y (openOfKind (s .setup) (closes t s₁) t r) refl)
         (λ _. y))
       where
-        completed : groupOf c r < length (s₁ .groups) → (groupOf c r is g && not (openOfKind c (closes t s₁) t r)) ≡ false → Before s₁ g w n
-            → (b : Bool) → openOfKind c (closes t s₁) t r ≡ b → Before (completeEdit c t r s₁) g w n
-        completed l q y true z = inner-before c t r s₁ l tidy z g w n y
-        completed l q y false z = outer-before c t r s₁ l tidy z g w n (λ i. never (rw (eq-eqb _ _ (sym i), z) at q) refl) y
+        completed : groupOf (s .setup) r < length (s₁ .groups) → (groupOf (s .setup) r is g && not (openOfKind (s .setup) (closes t s₁) t r)) ≡ false → Before s₁ g w n
+            → (b : Bool) → openOfKind (s .setup) (closes t s₁) t r ≡ b → Before (completeEdit (s .setup) t r s₁) g w n
+        completed l q y true z = inner-before (s .setup) t r s₁ l tidy z g w n y
+        completed l q y false z = outer-before (s .setup) t r s₁ l tidy z g w n (λ i. never (rw (eq-eqb _ _ (sym i), z) at q) refl) y
 
     place-up : handsOver s e g ≡ true → Before s g w (suc n) → Before s′ g w n
     unfolding handsOver
     place-up q x =
         let z = simp tests at q in
         let k : e .kind ≡ completion = z .0 .0 .1 in
-        let g-is : groupOf c r ≡ g = z .0 .1 in
+        let g-is : groupOf (s .setup) r ≡ g = z .0 .1 in
         let outer = same-open k ∙ not-true _ (z .1) in
         place-of (edited-by s e Q ok (λ z. Before z g w n) (λ y. absurd (omega arith)) (λ y. absurd (omega arith)) (λ y. absurd (omega arith))
-        (λ _. subst (λ (a : ℕ). Before s₁ a w (suc n) → Before (completeEdit c t r s₁) a w n) g-is (outer-up c t r s₁ (g-there (omega arith)) tidy outer w n) (aged (suc n) x))
+        (λ _. subst (λ (a : ℕ). Before s₁ a w (suc n) → Before (completeEdit (s .setup) t r s₁) a w n) g-is (outer-up (s .setup) t r s₁ (g-there (omega arith)) tidy outer w n) (aged (suc n) x))
         (λ y. absurd (omega arith)))
 
 -- ---- any event
