@@ -337,15 +337,22 @@ def tell(parts):
     return 0
 
 
+def is_built():
+    """A first call may build the program, and says so; later ones say nothing more."""
+    return subprocess.run(MAKE, input=ONE, stdout=subprocess.DEVNULL, check=False).returncode == 0
+
+
 def main(words):
     if shutil.which(MAKE[0]) is None:
         print(f'there is no command {MAKE[0]}; MAKE may name another', file=sys.stderr)
         return 2
-    if words == ['last']:
-        return tell([(last_block,)])
-    if len(words) > 2 or not all(word.isdecimal() for word in words):
+    if words != ['last'] and (len(words) > 2 or not all(word.isdecimal() for word in words)):
         print(__doc__, file=sys.stderr)
         return 2
+    if not is_built():
+        return 2
+    if words == ['last']:
+        return tell([(last_block,)])
     count, seed = [int(word) for word in words] + [200, 1][len(words):]
     rng = random.Random(seed)
     print(f'seed {seed}')
