@@ -1,7 +1,5 @@
--- The constants of `Processors` and `Jobs`, and a number for each `Mode`.
+-- The constants of `Processors` and `Jobs`.
 use Prim.Native.Nat.{ℕ}
-use Rattle.processors.specs.declared.Mode.{Mode}
-use Rattle.processors.specs.declared.Mode.the-variants.{Off, Preemptable, NonPreemptable}
 
 -- `Processors::LIMIT`
 abbrev pub processors : ℕ
@@ -15,6 +13,7 @@ tasks = 32
 abbrev pub nobody : ℕ
 nobody = 255
 
+-- the modes: `Jobs::OFF`, `Jobs::PREEMPTABLE`, `Jobs::NON_PREEMPTABLE`
 abbrev pub off : ℕ
 off = 0
 
@@ -23,8 +22,3 @@ preemptable = 1
 
 abbrev pub nonPreemptable : ℕ
 nonPreemptable = 2
-
-abbrev pub number : Mode → ℕ
-number Off = off
-number Preemptable = preemptable
-number NonPreemptable = nonPreemptable

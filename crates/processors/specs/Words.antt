@@ -4,23 +4,28 @@ use mathlib.Core.Bool.{Bool, _&&_}
 use mathlib.Core.List.{List}
 use lib.Dec.{leb, ltb}
 use lib.ListN.{getD, set, replicate}
-use Rattle.search.specs.Words.{_is_, _isn't_}
+use Rattle.search.specs.Words.{if_then_else_, _is_, _isn't_}
 use Rattle.search.specs.First.{first}
-use Rattle.processors.specs.Limits.{processors, nobody, preemptable, number}
-use Rattle.processors.specs.declared.Mode.the-variants.{Off}
-use Rattle.processors.specs.declared.Job.{Job}
+use Rattle.search.specs.Table.{table}
+use Rattle.processors.specs.Limits.{processors, tasks, nobody, off, preemptable}
 use Rattle.processors.specs.declared.Jobs.{Jobs}
 use Rattle.processors.specs.declared.Processors.{Processors}
 
 -- ---- jobs
-abbrev pub noJob : Job
-noJob = record { rank = 0; mode = Off }
+-- what is told of each task's job: its rank and its mode
+abbrev pub told : List ℕ → List ℕ → Jobs
+told ranks modes = record { ranks = ranks; modes = modes }
 
+-- the modes of the first n tasks; from there on no job is runnable
+unfoldable pub firstModes : ℕ → List ℕ → List ℕ
+firstModes n modes = table (λ t. if ltb t n then getD modes t off else off) tasks
+
+-- past the last task the rank is 0, and no job is runnable
 unfoldable pub rankOf : Jobs → ℕ → ℕ
-rankOf j t = getD (j .of) t noJob .rank
+rankOf j t = if ltb t tasks then getD (j .ranks) t 0 else 0
 
 unfoldable pub modeOf : Jobs → ℕ → ℕ
-modeOf j t = number (getD (j .of) t noJob .mode)
+modeOf j t = if ltb t tasks then getD (j .modes) t off else off
 
 abbrev pub isRunnable : Jobs → ℕ → Bool
 isRunnable j t = leb preemptable (modeOf j t)

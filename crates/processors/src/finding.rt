@@ -1,57 +1,33 @@
 // What the moves look up: a task's job, a processor's tasks, and a task's processor.
-use crate::Job;
 use crate::Jobs;
-use crate::Mode;
 use crate::Processors;
 ghost use mathlib.Core.Path.{_≡_};
+ghost use mathlib.Core.List.{[]};
 ghost use lib.ListN.{getD};
-ghost use Rattle.processors.specs.Limits.{nobody, number};
-ghost use Rattle.processors.specs.Words.{noJob, rankOf, modeOf, isHigher, link, runs, placeOf, linkOf, runOf, isUnlinked};
+ghost use Rattle.processors.specs.Limits.{nobody};
+ghost use Rattle.processors.specs.Words.{told, rankOf, modeOf, isHigher, link, runs, placeOf, linkOf, runOf, isUnlinked};
 
-fn job_of(jobs: Jobs, t: u8) -> Job
-    ensures { λ r. ⌜ r ≡ getD (jobs .of) t noJob ⌝ }
+// A rank is read from the ranks alone and a mode from the modes: the contracts leave the other table empty.
+fn rank_of(ranks: &[u64; Jobs::LIMIT], t: u8) -> u64
+    ensures { λ r. ⌜ r ≡ rankOf (told (now (ranks .entry)) []) t ⌝ }
 {
     let i = t as usize;
-    if i < Jobs::LIMIT {
-        jobs.of[i]
-    } else {
-        Job {
-            rank: 0,
-            mode: Mode::Off,
-        }
-    }
+    if i < Jobs::LIMIT { ranks[i] } else { 0 }
 }
 
-fn rank_of(jobs: Jobs, t: u8) -> u64
-    ensures { λ r. ⌜ r ≡ rankOf jobs t ⌝ }
+// The mode of the job of `t`.
+pub fn mode_of(modes: &[u8; Jobs::LIMIT], t: u8) -> u8
+    ensures { λ r. ⌜ r ≡ modeOf (told [] (now (modes .entry))) t ⌝ }
 {
-    job_of(jobs, t).rank
-}
-
-fn number_of(mode: Mode) -> u8
-    ensures { λ r. ⌜ r ≡ number mode ⌝ }
-{
-    match mode {
-        Mode::Off => 0,
-        Mode::Preemptable => Jobs::PREEMPTABLE,
-        Mode::NonPreemptable => Jobs::NON_PREEMPTABLE,
-    }
-}
-
-// The number of the mode of `t`.
-pub fn mode_of(jobs: Jobs, t: u8) -> u8
-    ensures { λ r. ⌜ r ≡ modeOf jobs t ⌝ }
-{
-    let job = job_of(jobs, t);
-    let mode = job.mode;
-    number_of(mode)
+    let i = t as usize;
+    if i < Jobs::LIMIT { modes[i] } else { Jobs::OFF }
 }
 
 // `a` has a higher priority than `b`.
-pub fn is_higher(jobs: Jobs, a: u8, b: u8) -> bool
-    ensures { λ r. ⌜ r ≡ isHigher jobs a b ⌝ }
+pub fn is_higher(ranks: &[u64; Jobs::LIMIT], a: u8, b: u8) -> bool
+    ensures { λ r. ⌜ r ≡ isHigher (told (now (ranks .entry)) []) a b ⌝ }
 {
-    rank_of(jobs, a) < rank_of(jobs, b)
+    rank_of(ranks, a) < rank_of(ranks, b)
 }
 
 // The task of processor `k` in a list of the processors' tasks, or nobody.
@@ -110,10 +86,10 @@ pub fn run_of(p: Processors, t: u8) -> usize
 }
 
 // `t` is runnable and no processor is linked to it.
-pub fn is_unlinked(p: Processors, jobs: Jobs, t: u8) -> bool
-    ensures { λ r. ⌜ r ≡ isUnlinked p jobs t ⌝ }
+pub fn is_unlinked(p: Processors, modes: &[u8; Jobs::LIMIT], t: u8) -> bool
+    ensures { λ r. ⌜ r ≡ isUnlinked p (told [] (now (modes .entry))) t ⌝ }
 {
-    if Jobs::PREEMPTABLE <= mode_of(jobs, t) {
+    if Jobs::PREEMPTABLE <= mode_of(modes, t) {
         Processors::LIMIT <= link_of(p, t)
     } else {
         false

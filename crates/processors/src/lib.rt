@@ -26,28 +26,19 @@ impl Processors {
     pub const NOBODY: u8 = 255;
 }
 
-// Whether a task has a runnable job, and which kind. A suspended job is off.
-pub enum Mode {
-    Off,
-    Preemptable,
-    NonPreemptable,
-}
-
-// What the scheduler is told of a task's job. A lower rank is a higher priority.
-pub struct Job {
-    pub rank: u64,
-    pub mode: Mode,
-}
-
+// What the scheduler is told of each task's job: its rank, lower for a higher priority, and its mode.
 pub struct Jobs {
-    pub of: [Job; Jobs::LIMIT],
+    pub ranks: [u64; Jobs::LIMIT],
+    pub modes: [u8; Jobs::LIMIT],
 }
 
 impl Jobs {
     pub const LIMIT: usize = 32;
     // Past the last task; a search that finds no task answers so.
     pub const END: u8 = Jobs::LIMIT as u8;
-    // The numbers of the modes that tests ask for.
+    // The modes: no runnable job, as of a task whose job is suspended; or a runnable job, and which kind.
+    pub const OFF: u8 = 0;
+
     pub const PREEMPTABLE: u8 = 1;
 
     pub const NON_PREEMPTABLE: u8 = 2;

@@ -6,7 +6,7 @@ use mathlib.Core.Logic.{_⊎_, inl, inr, ⊎-elim}
 use native.Mathlib.Omega.{arith}
 use native.Mathlib.Nat.{not-suc-le-zero}
 use native.Mathlib.Numerals.{add-one}
-use native.Mathlib.Decide.{ℕ-discrete}
+use native.Mathlib.Decide.{ℕ-discrete, decLt}
 use borrow.Author.Tests.{eqb-true, eqb-false}
 use Rattle.search.specs.Words.{if_then_else_, _is_}
 use Rattle.search.specs.Best.{better, best}
@@ -62,3 +62,13 @@ module _
 pub best-turn : (ok : ℕ → Bool) (over : ℕ → ℕ → Bool) (none n : ℕ) → best ok over none (n + 1) ≡ better ok over none n (best ok over none n)
 unfolding best
 best-turn ok over none n = rw add-one
+
+-- where no number from n on passes, the best of more numbers is the best of n
+pub best-past : (ok : ℕ → Bool) (over : ℕ → ℕ → Bool) (none n m : ℕ) → n ≤ m → ((k : ℕ) → n ≤ k → k < m → ok k ≡ false)
+    → best ok over none m ≡ best ok over none n
+unfolding best better
+best-past ok over none n zero h fails = let e : n ≡ 0 = omega arith in rw e
+best-past ok over none n (suc m) h fails = elim (decLt m n) [
+  | yes l ↦ let e : n ≡ suc m = omega arith in rw e
+  | no l ↦ rw (fails m (omega arith) (omega arith)) (best-past ok over none n m (omega arith) (λ k a b. fails k a (omega arith)))
+]
