@@ -10,10 +10,11 @@ use processors::runs_at;
 ghost use mathlib.Core.Path.{_≡_};
 ghost use Prim.Native.Nat.{_<_};
 ghost use mathlib.Core.Bool.{_&&_};
+ghost use mathlib.Core.List.{[]};
 ghost use Rattle.search.specs.First.{bit, mask};
 ghost use Rattle.search.specs.Best.{better};
 ghost use Rattle.processors.specs.Limits.{processors};
-ghost use Rattle.processors.specs.Words.{link};
+ghost use Rattle.processors.specs.Words.{told, link};
 ghost use Rattle.scheduler.specs.Arriving.{isUsed, isFree, lowestFree, linksLower, lowestLinked, isPreempted, displacing, taken, arriving};
 
 fn is_free(p: Processors, k: usize) -> bool
@@ -40,14 +41,14 @@ fn free_mask(p: Processors) -> u32
 }
 
 // The better of processor `k` and the best so far, where the better is the one with the lower-priority link.
-fn lower_link(p: Processors, jobs: Jobs, k: usize, best: usize) -> usize
-    ensures { λ r. ⌜ r ≡ better (isUsed p) (linksLower p jobs) processors k best ⌝ }
+fn lower_link(p: Processors, ranks: &[u64; Jobs::LIMIT], k: usize, best: usize) -> usize
+    ensures { λ r. ⌜ r ≡ better (isUsed p) (linksLower p (told (now (ranks .entry)) [])) processors k best ⌝ }
 {
     if k < p.count {
         if best == Processors::LIMIT {
             k
         } else {
-            let lower = is_higher(jobs, link_at(p, best), link_at(p, k));
+            let lower = is_higher(ranks, link_at(p, best), link_at(p, k));
             search::pick(lower, k, best)
         }
     } else {
@@ -56,31 +57,37 @@ fn lower_link(p: Processors, jobs: Jobs, k: usize, best: usize) -> usize
 }
 
 // The processor with the lowest-priority linked job.
-fn lowest_linked(p: Processors, jobs: Jobs) -> usize
-    ensures { λ r. ⌜ r ≡ lowestLinked p jobs ⌝ }
+fn lowest_linked(p: Processors, ranks: &[u64; Jobs::LIMIT]) -> usize
+    ensures { λ r. ⌜ r ≡ lowestLinked p (told (now (ranks .entry)) []) ⌝ }
 {
     let mut best = Processors::LIMIT;
     for k in 0..Processors::LIMIT {
-        best = lower_link(p, jobs, k, best);
+        best = lower_link(p, ranks, k, best);
     }
     best
 }
 
 // The job linked to processor `k` is running and preemptable.
-fn is_preempted(p: Processors, jobs: Jobs, k: usize) -> bool
-    ensures { λ r. ⌜ r ≡ isPreempted p jobs k ⌝ }
+fn is_preempted(p: Processors, modes: &[u8; Jobs::LIMIT], k: usize) -> bool
+    ensures { λ r. ⌜ r ≡ isPreempted p (told [] (now (modes .entry))) k ⌝ }
 {
     let t = link_at(p, k);
-    (runs_at(p, k) == t) & (mode_of(jobs, t) == Jobs::PREEMPTABLE)
+    (runs_at(p, k) == t) & (mode_of(modes, t) == Jobs::PREEMPTABLE)
 }
 
 // The comer `t` takes the link of processor `k` if it is higher than the job linked there.
-fn displace(p: Processors, jobs: Jobs, t: u8, k: usize) -> Processors
-    ensures { λ r. ⌜ r ≡ displacing p jobs t k ⌝ }
+fn displace(
+    p: Processors,
+    ranks: &[u64; Jobs::LIMIT],
+    modes: &[u8; Jobs::LIMIT],
+    t: u8,
+    k: usize,
+) -> Processors
+    ensures { λ r. ⌜ r ≡ displacing p (told (now (ranks .entry)) (now (modes .entry))) t k ⌝ }
 {
     if k < Processors::LIMIT {
-        if is_higher(jobs, t, link_at(p, k)) {
-            if is_preempted(p, jobs, k) {
+        if is_higher(ranks, t, link_at(p, k)) {
+            if is_preempted(p, modes, k) {
                 place_on(p, k, t)
             } else {
                 link_on(p, k, t)
@@ -113,15 +120,21 @@ fn take(p: Processors, k: usize) -> usize
     if is_taken { k } else { lowest_free(p) }
 }
 
-// The job of `t` arrives or resumes, and `jobs` has it so: on processor `k` if it is unlinked, else on the lowest-numbered
+// The job of `t` arrives or resumes, and the tables have it so: on processor `k` if it is unlinked, else on the lowest-numbered
 // that is. `Processors::NOBODY` suggests none.
-pub fn arrive(p: Processors, jobs: Jobs, t: u8, k: u8) -> Processors
-    ensures { λ r. ⌜ r ≡ arriving p jobs t k ⌝ }
+pub fn arrive(
+    p: Processors,
+    ranks: &[u64; Jobs::LIMIT],
+    modes: &[u8; Jobs::LIMIT],
+    t: u8,
+    k: u8,
+) -> Processors
+    ensures { λ r. ⌜ r ≡ arriving p (told (now (ranks .entry)) (now (modes .entry))) t k ⌝ }
 {
     let taken = take(p, k as usize);
     if taken < Processors::LIMIT {
         place_on(p, taken, t)
     } else {
-        displace(p, jobs, t, lowest_linked(p, jobs))
+        displace(p, ranks, modes, t, lowest_linked(p, ranks))
     }
 }

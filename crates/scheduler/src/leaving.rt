@@ -9,9 +9,11 @@ use processors::place_on;
 use processors::run_of;
 use processors::runs_at;
 ghost use mathlib.Core.Path.{_≡_};
+ghost use Prim.Native.Nat.{min};
+ghost use mathlib.Core.List.{[]};
 ghost use Rattle.search.specs.Best.{better};
 ghost use Rattle.processors.specs.Limits.{tasks};
-ghost use Rattle.processors.specs.Words.{isUnlinked, isHigher, isAwaited};
+ghost use Rattle.processors.specs.Words.{told, firstModes, isUnlinked, isHigher, isAwaited};
 ghost use Rattle.scheduler.specs.Leaving.{becomingPreemptable, nextTask, filling, refilling, leavingFrom, leaving, givingWay};
 
 // Processor `k` is linked to a job that it does not run.
@@ -39,27 +41,47 @@ pub fn become_preemptable(p: Processors, t: u8) -> Processors
 }
 
 // The better of task `t` and the best so far, where only unlinked runnable jobs count.
-fn higher_task(p: Processors, jobs: Jobs, t: u8, best: u8) -> u8
-    ensures { λ r. ⌜ r ≡ better (isUnlinked p jobs) (isHigher jobs) tasks t best ⌝ }
+fn higher_task(
+    p: Processors,
+    ranks: &[u64; Jobs::LIMIT],
+    modes: &[u8; Jobs::LIMIT],
+    t: u8,
+    best: u8,
+) -> u8
+    ensures { λ r. ⌜ r ≡ better
+        (isUnlinked p (told [] (now (modes .entry)))) (isHigher (told (now (ranks .entry)) [])) tasks t best ⌝ }
 {
-    if is_unlinked(p, jobs, t) {
+    if is_unlinked(p, modes, t) {
         if best == Jobs::END {
             t
         } else {
-            if is_higher(jobs, t, best) { t } else { best }
+            if is_higher(ranks, t, best) { t } else { best }
         }
     } else {
         best
     }
 }
 
-// The highest-priority unlinked runnable job, or `Jobs::END`.
-fn next_task(p: Processors, jobs: Jobs) -> u8
-    ensures { λ r. ⌜ r ≡ nextTask p jobs ⌝ }
+// The lesser of `n` and `Jobs::END`.
+fn end_of(n: usize) -> u8
+    ensures { λ r. ⌜ r ≡ min n tasks ⌝ }
 {
+    if n < Jobs::LIMIT { n as u8 } else { Jobs::END }
+}
+
+// The highest-priority unlinked runnable job of the first `tasks` tasks, or `Jobs::END`.
+fn next_task(
+    p: Processors,
+    ranks: &[u64; Jobs::LIMIT],
+    modes: &[u8; Jobs::LIMIT],
+    tasks: usize,
+) -> u8
+    ensures { λ r. ⌜ r ≡ nextTask p (told (now (ranks .entry)) (firstModes tasks (now (modes .entry)))) ⌝ }
+{
+    let n = end_of(tasks);
     let mut best = Jobs::END;
-    for t in 0..Jobs::END {
-        best = higher_task(p, jobs, t, best);
+    for t in 0..n {
+        best = higher_task(p, ranks, modes, t, best);
     }
     best
 }
@@ -76,10 +98,16 @@ fn fill(p: Processors, k: usize, u: u8, q: usize) -> Processors
     }
 }
 
-fn refill(p: Processors, jobs: Jobs, k: usize) -> Processors
-    ensures { λ r. ⌜ r ≡ refilling p jobs k ⌝ }
+fn refill(
+    p: Processors,
+    ranks: &[u64; Jobs::LIMIT],
+    modes: &[u8; Jobs::LIMIT],
+    tasks: usize,
+    k: usize,
+) -> Processors
+    ensures { λ r. ⌜ r ≡ refilling p (told (now (ranks .entry)) (firstModes tasks (now (modes .entry)))) k ⌝ }
 {
-    let u = next_task(p, jobs);
+    let u = next_task(p, ranks, modes, tasks);
     if u < Jobs::END {
         fill(p, k, u, run_of(p, u))
     } else {
@@ -87,36 +115,55 @@ fn refill(p: Processors, jobs: Jobs, k: usize) -> Processors
     }
 }
 
-fn leave_from(p: Processors, jobs: Jobs, k: usize) -> Processors
-    ensures { λ r. ⌜ r ≡ leavingFrom p jobs k ⌝ }
+fn leave_from(
+    p: Processors,
+    ranks: &[u64; Jobs::LIMIT],
+    modes: &[u8; Jobs::LIMIT],
+    tasks: usize,
+    k: usize,
+) -> Processors
+    ensures { λ r. ⌜ r ≡ leavingFrom p (told (now (ranks .entry)) (firstModes tasks (now (modes .entry)))) k ⌝ }
 {
     if is_awaited(p, k) {
         place_on(p, k, link_at(p, k))
     } else {
-        refill(place_on(p, k, Processors::NOBODY), jobs, k)
+        refill(place_on(p, k, Processors::NOBODY), ranks, modes, tasks, k)
     }
 }
 
-// The job of `t` has finished or is suspended, and `jobs` has it so: it leaves its processor.
-pub fn leave(p: Processors, jobs: Jobs, t: u8) -> Processors
-    ensures { λ r. ⌜ r ≡ leaving p jobs t ⌝ }
+// The job of `t` has finished or is suspended, and the tables have it so: it leaves its processor. Of the `tasks` tasks
+// that there are one may come instead.
+pub fn leave(
+    p: Processors,
+    ranks: &[u64; Jobs::LIMIT],
+    modes: &[u8; Jobs::LIMIT],
+    tasks: usize,
+    t: u8,
+) -> Processors
+    ensures { λ r. ⌜ r ≡ leaving p (told (now (ranks .entry)) (firstModes tasks (now (modes .entry)))) t ⌝ }
 {
     let k = run_of(p, t);
     if k < Processors::LIMIT {
-        leave_from(p, jobs, k)
+        leave_from(p, ranks, modes, tasks, k)
     } else {
         p
     }
 }
 
-// The priority of `t` is restored, and `jobs` has it so: a higher job may take its processor.
-pub fn give_way(p: Processors, jobs: Jobs, t: u8) -> Processors
-    ensures { λ r. ⌜ r ≡ givingWay p jobs t ⌝ }
+// The priority of `t` is restored, and the tables have it so: a higher job of the `tasks` tasks may take its processor.
+pub fn give_way(
+    p: Processors,
+    ranks: &[u64; Jobs::LIMIT],
+    modes: &[u8; Jobs::LIMIT],
+    tasks: usize,
+    t: u8,
+) -> Processors
+    ensures { λ r. ⌜ r ≡ givingWay p (told (now (ranks .entry)) (firstModes tasks (now (modes .entry)))) t ⌝ }
 {
-    let u = next_task(p, jobs);
+    let u = next_task(p, ranks, modes, tasks);
     if u < Jobs::END {
-        if is_higher(jobs, u, t) {
-            leave(p, jobs, t)
+        if is_higher(ranks, u, t) {
+            leave(p, ranks, modes, tasks, t)
         } else {
             p
         }

@@ -1,6 +1,7 @@
 use borrow.Author.Needs.{needs}
 use borrow.Author.Tests.{lt-ltb, le-ltb}
-use Rattle.scheduler.specs.Arriving.{arrivingOn, arriving}
+use Rattle.processors.specs.Words.{rankOf}
+use Rattle.scheduler.specs.Arriving.{lowestLinked, arrivingOn, arriving}
 use Rattle.scheduler.proofs.arriving.arrive.Statement.{statement}
 use Rattle.scheduler.proofs.arriving.arrive.Tie as tie
 
@@ -21,7 +22,7 @@ unfolding arriving arrivingOn
 returns c = rw (c .place-on .ensures, ← (c .before .before .take .ensures), lt-ltb _ _ (c .before .if1 .taken))
 
 returns-2 : tie.Need-returns-2
-unfolding arriving arrivingOn
+unfolding arriving arrivingOn lowestLinked rankOf
 returns-2 c = rw (c .displace .ensures, c .before .lowest-linked .ensures, ← (c .before .before .before .take .ensures), le-ltb _ _ (c .before .before .if1 .left))
 
 pub arrive-spec : {M : Type 1} → statement M

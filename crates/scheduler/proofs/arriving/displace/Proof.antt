@@ -1,5 +1,6 @@
 use borrow.Author.Needs.{needs}
 use borrow.Author.Tests.{lt-ltb, le-ltb}
+use Rattle.processors.specs.Words.{rankOf, modeOf}
 use Rattle.scheduler.specs.Arriving.{displacing}
 use Rattle.scheduler.proofs.arriving.displace.Statement.{statement}
 use Rattle.scheduler.proofs.arriving.displace.Tie as tie
@@ -20,7 +21,7 @@ link-on-requires : tie.Need-link-on-requires
 link-on-requires c κs = search needs
 
 returns : tie.Need-returns
-unfolding displacing
+unfolding displacing rankOf modeOf
 returns c =
     let b = c .before .before .before in
     let a = b .before .before in
@@ -28,7 +29,7 @@ returns c =
     (c .place-on .ensures)
 
 returns-2 : tie.Need-returns-2
-unfolding displacing
+unfolding displacing rankOf modeOf
 returns-2 c =
     let b = c .before .before .before in
     let a = b .before .before in
@@ -36,11 +37,11 @@ returns-2 c =
     (c .link-on .ensures)
 
 returns-3 : tie.Need-returns-3
-unfolding displacing
+unfolding displacing rankOf modeOf
 returns-3 c = rw (lt-ltb _ _ (c .before .before .before .if1 .taken), ← c .before .before .link-at .ensures, ← c .before .is-higher .ensures, c .if2 .left)
 
 returns-4 : tie.Need-returns-4
-unfolding displacing
+unfolding displacing rankOf modeOf
 returns-4 c = rw (le-ltb _ _ (c .if1 .left))
 
 pub displace-spec : {M : Type 1} → statement M

@@ -1,20 +1,22 @@
 -- `lowestLinked` by a loop that keeps the best so far. Assumes nothing.
 use Prim.Native.Nat.{_≤_, _-_}
 use mathlib.Core.Path.{_≡_}
+use mathlib.Core.List.{[]}
 use native.Mathlib.Omega.{arith}
 use borrow.Author.Needs.{needs}
 use Rattle.search.specs.Best.{best}
 use Rattle.search.proofs.Bests.{best-turn}
 use Rattle.processors.specs.Limits.{processors}
+use Rattle.processors.specs.Words.{told}
 use Rattle.scheduler.specs.Arriving.{isUsed, linksLower, lowestLinked}
 use Rattle.scheduler.proofs.arriving.lowest_linked.Statement.{statement}
 use Rattle.scheduler.proofs.arriving.lowest_linked.Tie as tie
 
 abbrev Inv-loop : tie.InvT-loop
-Inv-loop p jobs b₀ k₀ b k = (k ≤ processors) × (b ≡ best (isUsed p) (linksLower p jobs) processors k)
+Inv-loop p ranks b₀ k₀ b k = (k ≤ processors) × (b ≡ best (isUsed p) (linksLower p (told ranks [])) processors k)
 
 abbrev μ-loop : tie.MeasureT-loop
-μ-loop p jobs b₀ k₀ b k = processors - k
+μ-loop p ranks b₀ k₀ b k = processors - k
 
 loop-holds : tie.Need-loop-holds Inv-loop μ-loop
 unfolding best
