@@ -9,11 +9,10 @@ use lib.ListN.{replicate}
 use mathlib.Core.Bool.{true}
 use Rattle.search.specs.Below.{allBelow}
 use Rattle.search.specs.First.{first}
-use Rattle.processors.specs.Limits.{nobody}
-use Rattle.processors.specs.Words.{noJob, rankOf, modeOf, linkOf, runOf}
+use Rattle.processors.specs.Limits.{nobody, off, preemptable, nonPreemptable}
+use Rattle.processors.specs.Words.{rankOf, modeOf, linkOf, runOf}
 use Rattle.scheduler.specs.Placed.{Placed, LinkedOnly}
 use Rattle.placement.specs.PlacedTest.{linkHolds, runHolds, processorHolds, linksHigher, taskHolds, isPlaced}
-use Rattle.processors.specs.declared.Mode.the-variants.{Preemptable, NonPreemptable}
 use Rattle.processors.specs.declared.Jobs.{Jobs}
 use Rattle.processors.specs.declared.Processors.{Processors}
 use Rattle.scheduler.proofs.Finds.{run-nowhere}
@@ -24,12 +23,8 @@ sample = record { count = 2; linked = 0 ∷ 2 ∷ replicate 6 nobody; running = 
 
 pub sampleJobs : Jobs
 sampleJobs = record {
-  of =
-      record { rank = 100; mode = Preemptable }
-      ∷ record { rank = 300; mode = NonPreemptable }
-      ∷ record { rank = 200; mode = Preemptable }
-      ∷ record { rank = 400; mode = Preemptable }
-      ∷ replicate 28 noJob;
+  ranks = 100 ∷ 300 ∷ 200 ∷ 400 ∷ replicate 28 0;
+  modes = preemptable ∷ nonPreemptable ∷ preemptable ∷ preemptable ∷ replicate 28 off;
 }
 
 sample-test : isPlaced sample sampleJobs ≡ true

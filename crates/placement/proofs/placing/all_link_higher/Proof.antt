@@ -1,19 +1,21 @@
 use Prim.Native.Nat.{_≤_, _-_}
+use mathlib.Core.List.{[]}
 use mathlib.Core.Path.{_≡_}
 use native.Mathlib.Omega.{arith}
 use native.Mathlib.Numerals.{add-one}
 use borrow.Author.Needs.{needs}
 use Rattle.search.specs.Below.{allBelow}
+use Rattle.processors.specs.Words.{told}
 use Rattle.processors.specs.Limits.{processors}
 use Rattle.placement.specs.PlacedTest.{linksHigher}
 use Rattle.placement.proofs.placing.all_link_higher.Statement.{statement}
 use Rattle.placement.proofs.placing.all_link_higher.Tie as tie
 
 abbrev Inv-loop : tie.InvT-loop
-Inv-loop p jobs t ok₀ k₀ ok k = (k ≤ processors) × (ok ≡ allBelow k (linksHigher p jobs t))
+Inv-loop p ranks t ok₀ k₀ ok k = (k ≤ processors) × (ok ≡ allBelow k (linksHigher p (told ranks []) t))
 
 abbrev μ-loop : tie.MeasureT-loop
-μ-loop p jobs t ok₀ k₀ ok k = processors - k
+μ-loop p ranks t ok₀ k₀ ok k = processors - k
 
 loop-holds : tie.Need-loop-holds Inv-loop μ-loop
 unfolding allBelow

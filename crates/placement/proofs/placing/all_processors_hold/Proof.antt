@@ -1,19 +1,21 @@
 use Prim.Native.Nat.{_≤_, _-_}
+use mathlib.Core.List.{[]}
 use mathlib.Core.Path.{_≡_}
 use native.Mathlib.Omega.{arith}
 use native.Mathlib.Numerals.{add-one}
 use borrow.Author.Needs.{needs}
 use Rattle.search.specs.Below.{allBelow}
+use Rattle.processors.specs.Words.{told}
 use Rattle.processors.specs.Limits.{processors}
 use Rattle.placement.specs.PlacedTest.{processorHolds}
 use Rattle.placement.proofs.placing.all_processors_hold.Statement.{statement}
 use Rattle.placement.proofs.placing.all_processors_hold.Tie as tie
 
 abbrev Inv-loop : tie.InvT-loop
-Inv-loop p jobs ok₀ k₀ ok k = (k ≤ processors) × (ok ≡ allBelow k (processorHolds p jobs))
+Inv-loop p modes ok₀ k₀ ok k = (k ≤ processors) × (ok ≡ allBelow k (processorHolds p (told [] modes)))
 
 abbrev μ-loop : tie.MeasureT-loop
-μ-loop p jobs ok₀ k₀ ok k = processors - k
+μ-loop p modes ok₀ k₀ ok k = processors - k
 
 loop-holds : tie.Need-loop-holds Inv-loop μ-loop
 unfolding allBelow

@@ -4,16 +4,17 @@ use native.Mathlib.Omega.{arith}
 use native.Mathlib.Numerals.{add-one}
 use borrow.Author.Needs.{needs}
 use Rattle.search.specs.Below.{allBelow}
+use Rattle.processors.specs.Words.{told}
 use Rattle.processors.specs.Limits.{tasks}
 use Rattle.placement.specs.PlacedTest.{taskHolds}
 use Rattle.placement.proofs.placing.all_tasks_hold.Statement.{statement}
 use Rattle.placement.proofs.placing.all_tasks_hold.Tie as tie
 
 abbrev Inv-loop : tie.InvT-loop
-Inv-loop p jobs ok₀ t₀ ok t = (t ≤ tasks) × (ok ≡ allBelow t (taskHolds p jobs))
+Inv-loop p ranks modes ok₀ t₀ ok t = (t ≤ tasks) × (ok ≡ allBelow t (taskHolds p (told ranks modes)))
 
 abbrev μ-loop : tie.MeasureT-loop
-μ-loop p jobs ok₀ t₀ ok t = tasks - t
+μ-loop p ranks modes ok₀ t₀ ok t = tasks - t
 
 loop-holds : tie.Need-loop-holds Inv-loop μ-loop
 unfolding allBelow

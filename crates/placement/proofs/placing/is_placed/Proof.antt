@@ -1,5 +1,6 @@
+use Rattle.processors.specs.Words.{rankOf, modeOf}
 use borrow.Author.Needs.{needs}
-use Rattle.placement.specs.PlacedTest.{isPlaced}
+use Rattle.placement.specs.PlacedTest.{isPlaced, processorHolds, linkHolds, runHolds}
 use Rattle.placement.proofs.placing.is_placed.Statement.{statement}
 use Rattle.placement.proofs.placing.is_placed.Tie as tie
 
@@ -10,7 +11,7 @@ all-tasks-hold-requires : tie.Need-all-tasks-hold-requires
 all-tasks-hold-requires c κs = search needs
 
 returns : tie.Need-returns
-unfolding isPlaced
+unfolding isPlaced rankOf modeOf processorHolds linkHolds runHolds
 returns c = cc
 
 pub is-placed-spec : {M : Type 1} → statement M
