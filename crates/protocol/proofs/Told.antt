@@ -6,10 +6,10 @@ use mathlib.Core.Bool.{Bool, true, false}
 use native.Mathlib.Omega.{arith}
 use native.Mathlib.Decide.{decLt}
 use Rattle.search.proofs.Tests.{tests, never}
-use Rattle.search.proofs.Tables.{table-at, table-past}
-use Rattle.processors.specs.Limits.{preemptable, nonPreemptable, number, off}
-use Rattle.processors.specs.Words.{noJob, rankOf, modeOf}
-use Rattle.processors.specs.declared.Job.{Job}
+use borrow.Author.Tests.{lt-ltb, le-ltb}
+use Rattle.search.proofs.Tables.{table-at}
+use Rattle.processors.specs.Limits.{preemptable, nonPreemptable, off}
+use Rattle.processors.specs.Words.{rankOf, modeOf}
 use Rattle.scheduler.specs.Changes.{Apart}
 use Rattle.input.specs.Limits.{mostTasks, short}
 use Rattle.input.specs.Words.{kind}
@@ -55,7 +55,7 @@ modeNo (suc zero) false = preemptable
 modeNo (suc (suc zero)) b = nonPreemptable
 modeNo (suc (suc (suc n))) b = off
 
-mode-number : (x : Standing) (b : Bool) → number (modeFor x b) ≡ modeNo (standingNo x) b
+mode-number : (x : Standing) (b : Bool) → modeFor x b ≡ modeNo (standingNo x) b
 unfolding modeNo
 mode-number Absent b = refl
 mode-number Active true = refl
@@ -73,19 +73,19 @@ mode-on (suc (suc (suc n))) b h = absurd (omega arith)
 module _ (c : SetUp) (s : State) where
   pub rank-told : (t : ℕ) → t < mostTasks → rankOf (jobs c s) t ≡ effective c s t
   unfolding rankOf jobs
-  rank-told t h = ap (λ (x : Job). x .rank) (table-at _ mostTasks t noJob h)
+  rank-told t h = rw (lt-ltb t mostTasks h) (table-at _ mostTasks t 0 h)
 
   pub rank-out : (t : ℕ) → mostTasks ≤ t → rankOf (jobs c s) t ≡ 0
   unfolding rankOf jobs
-  rank-out t h = ap (λ (x : Job). x .rank) (table-past _ mostTasks t noJob h)
+  rank-out t h = rw (le-ltb t mostTasks h)
 
   pub mode-told : (t : ℕ) → t < mostTasks → modeOf (jobs c s) t ≡ modeNo (stand s t) (shortOpen c s t)
   unfolding modeOf jobs stand
-  mode-told t h = ap (λ (x : Job). number (x .mode)) (table-at _ mostTasks t noJob h) ∙ mode-number (task s t .standing) (shortOpen c s t)
+  mode-told t h = rw (lt-ltb t mostTasks h) (table-at _ mostTasks t off h) ∙ mode-number (task s t .standing) (shortOpen c s t)
 
   pub mode-out : (t : ℕ) → mostTasks ≤ t → modeOf (jobs c s) t ≡ off
   unfolding modeOf jobs
-  mode-out t h = ap (λ (x : Job). number (x .mode)) (table-past _ mostTasks t noJob h)
+  mode-out t h = rw (le-ltb t mostTasks h)
 
   -- what a mode says of the standing, and the standing of the mode
   pub mode-runs : (t : ℕ) → preemptable ≤ modeOf (jobs c s) t → (t < mostTasks) × ((stand s t ≡ active) ⊎ (stand s t ≡ spinning))

@@ -6,8 +6,8 @@ use Rattle.search.specs.Words.{_is_}
 use Rattle.search.specs.Below.{anyBelow}
 use Rattle.search.specs.First.{first}
 use Rattle.search.specs.Table.{table}
-use Rattle.processors.specs.declared.Mode.{Mode}
-use Rattle.processors.specs.declared.Mode.the-variants.{Off, Preemptable, NonPreemptable}
+use Rattle.processors.specs.Limits.{off, preemptable, nonPreemptable}
+use Rattle.processors.specs.Words.{told}
 use Rattle.processors.specs.declared.Jobs.{Jobs}
 use Rattle.input.specs.Limits.{mostTasks, short, long}
 use Rattle.input.specs.Words.{kind}
@@ -28,12 +28,12 @@ leastOf f zero a = a
 leastOf f (suc n) a = min (f n) (leastOf f n a)
 
 -- suspended on a long group, preemptable, or non-preemptable as holder or spinner of a short group
-abbrev pub modeFor : Standing → Bool → Mode
-modeFor Absent holds = Off
-modeFor Active true = NonPreemptable
-modeFor Active false = Preemptable
-modeFor (Waiting (Short r)) holds = NonPreemptable
-modeFor (Waiting (Long r)) holds = Off
+abbrev pub modeFor : Standing → Bool → ℕ
+modeFor Absent holds = off
+modeFor Active true = nonPreemptable
+modeFor Active false = preemptable
+modeFor (Waiting (Short r)) holds = nonPreemptable
+modeFor (Waiting (Long r)) holds = off
 
 module _ (c : SetUp) (s : State) where
   -- the long group that t holds, or the number past the last resource
@@ -49,4 +49,4 @@ module _ (c : SetUp) (s : State) where
   shortOpen t = anyBelow (depth s t) (λ i. kind c (request s t i) is short)
 
   unfoldable pub jobs : Jobs
-  jobs = record { of = table (λ t. record { rank = effective t; mode = modeFor (task s t .standing) (shortOpen t) }) mostTasks }
+  jobs = told (table effective mostTasks) (table (λ t. modeFor (task s t .standing) (shortOpen t)) mostTasks)
