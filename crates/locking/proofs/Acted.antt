@@ -4,9 +4,9 @@ use mathlib.Core.Path.{_≡_, refl, sym, ap, _∙_, subst}
 use mathlib.Core.Bool.{Bool, true, false, _||_}
 use mathlib.Core.List.{List}
 use native.Mathlib.Omega.{arith}
-use native.Mathlib.Decide.{ℕ-discrete}
+use native.Mathlib.Decide.{ℕ-discrete, decLt}
 use lib.ListN.{length, getD, set, length-set}
-use lib.Seq.{set-getD, set-set, getD-set-same}
+use lib.Seq.{set-getD, set-set, set-out, getD-set-same, getD-set-other}
 use borrow.Author.Tests.{eq-eqb, ne-eqb}
 use Rattle.search.specs.Words.{if_then_else_, _is_}
 use Rattle.queue.specs.Waiting.{waiter as queued, withoutFirst}
@@ -16,14 +16,15 @@ use Rattle.input.specs.Kinds.{arrival, finish, request as asking, completion}
 use Rattle.input.specs.declared.Event.{Event}
 use Rattle.setups.specs.Naming.{groupOf}
 use Rattle.protocol.specs.Words.{mostRequests, nobody, noTask, noGroup, askedOf, task, group, asked, depth, request, holder, len, waiter}
-use Rattle.protocol.specs.Locks.{standingAs, opening, closing, arriving, departing, onTask, openOfKind, opens, queues, closes, frees, nextAt, calls, passes}
+use Rattle.protocol.specs.Locks.{withRequests, standingAs, opening, closing, arriving, departing, onTask, openOfKind, opens, queues, closes, frees, nextAt, calls, passes}
 use Rattle.protocol.specs.Events.{cold, arrives, leaves, softens, givesWay, arriveEvent, finishEvent, requestEvent, completeEvent, act}
+use Rattle.protocol.specs.declared.Standing.{Standing}
 use Rattle.protocol.specs.declared.Standing.the-variants.{Active}
 use Rattle.protocol.specs.declared.Task.{Task}
 use Rattle.protocol.specs.declared.Group.{Group}
 use Rattle.protocol.specs.declared.State.{State}
 use Rattle.locking.specs.Acting.{CanPass, CanComplete, CanAct}
-use Rattle.locking.specs.Edits.{stay, soften, arrive, leave, giveWay, openIn, requesting, completing, editing, handing, put, stored, movedBy, handed, editOf, acted}
+use Rattle.locking.specs.Edits.{stay, soften, arrive, leave, giveWay, openIn, keeping, requesting, completing, editing, handing, put, stored, movedBy, handed, editOf, acted}
 use Rattle.locking.specs.declared.acting.Edit.{Edit}
 use Rattle.locking.proofs.Branching.{request-open, request-spin, request-wait, complete-inner, complete-short, complete-long}
 
@@ -48,6 +49,66 @@ module _ (s : State) (t : ℕ) where
   moved-way : movedBy giveWay t s ≡ givesWay (s .setup) t s
   unfolding movedBy givesWay
   moved-way = refl
+
+-- ---- an edit, by what each kind of event makes of the records
+module _ (kinds : List ℕ) (x : Task) (y : Group) (P : Edit → Type 0) where
+  -- nobody is handed the group
+  abbrev Keeps : Type 0
+  Keeps = (standing : Standing) (requests : List ℕ) (depth : ℕ) (z : Group) (turn : ℕ) → P (keeping (withRequests standing requests depth x) z turn)
+
+  requesting-by : (t r : ℕ) → Keeps → P (requesting kinds x y t r)
+  unfolding requesting
+  requesting-by t r f = go (openIn kinds x r || y .holder is nobody) refl
+    where
+      go : (b : Bool) → (openIn kinds x r || y .holder is nobody) ≡ b → P (requesting kinds x y t r)
+      go true h = rw h (f _ _ _ _ _)
+      go false h = rw h (f _ _ _ _ _)
+
+  completing-by : (r : ℕ) → ((z : Group) (turn next : ℕ) → P (record { task = closing x; group = z; turn = turn; next = next })) → P (completing kinds x y r)
+  unfolding completing
+  completing-by r f = go (openIn kinds (closing x) r) refl
+    where
+      go : (b : Bool) → openIn kinds (closing x) r ≡ b → P (completing kinds x y r)
+      go true h = rw h (f _ _ _)
+      go false h = rw h (f _ _ _)
+
+  editing-by : (span clock : ℕ) (e : Event) → P (keeping (arriving clock (clock + span) x) y arrive) → P (keeping (departing x) y leave) → Keeps
+      → (e .kind ≡ completion → P (completing kinds x y (e .resource))) → P (editing kinds span clock x y e)
+  unfolding editing
+  editing-by span clock e comes goes keeps ends = elim (ℕ-discrete (e .kind) arrival) [
+    | yes k ↦ rw (eq-eqb (e .kind) arrival k) comes
+    | no a ↦ elim (ℕ-discrete (e .kind) finish) [
+      | yes k ↦ rw (ne-eqb (e .kind) arrival a, eq-eqb (e .kind) finish k) goes
+      | no f ↦ elim (ℕ-discrete (e .kind) asking) [
+        | yes k ↦ rw (ne-eqb (e .kind) arrival a, ne-eqb (e .kind) finish f, eq-eqb (e .kind) asking k) (requesting-by (e .task) (e .resource) keeps)
+        | no r ↦ elim (ℕ-discrete (e .kind) completion) [
+          | yes k ↦ rw (ne-eqb (e .kind) arrival a, ne-eqb (e .kind) finish f, ne-eqb (e .kind) asking r, eq-eqb (e .kind) completion k) (ends k)
+          | no q ↦ rw (ne-eqb (e .kind) arrival a, ne-eqb (e .kind) finish f, ne-eqb (e .kind) asking r, ne-eqb (e .kind) completion q) (keeps (x .standing) (x .requests) (x .depth) y stay)
+        ]
+      ]
+    ]
+  ]
+
+-- no edit changes the totals, and none makes a deadline but an arrival
+module _ (kinds : List ℕ) (span clock : ℕ) (x : Task) (y : Group) (e : Event) where
+  pub edited-totals : editing kinds span clock x y e .task .totals ≡ x .totals
+  edited-totals =
+      let P : Edit → Type 0 = λ d. d .task .totals ≡ x .totals in
+      editing-by kinds x y P span clock e refl refl (λ s q n z turn. refl) (λ k. completing-by kinds x y P (e .resource) (λ z turn next. refl))
+
+  pub edited-deadline : (m : ℕ) → x .deadline ≤ m → clock + span ≤ m → editing kinds span clock x y e .task .deadline ≤ m
+  edited-deadline m had due =
+      let P : Edit → Type 0 = λ d. d .task .deadline ≤ m in
+      editing-by kinds x y P span clock e due (omega arith) (λ s q n z turn. had) (λ k. completing-by kinds x y P (e .resource) (λ z turn next. had))
+
+module _ (x : Task) (y : Group) (turn next : ℕ) where
+  pub handed-totals : handing x y turn next .task .totals ≡ x .totals
+  unfolding handing
+  handed-totals = refl
+
+  pub handed-deadline : handing x y turn next .task .deadline ≡ x .deadline
+  unfolding handing
+  handed-deadline = refl
 
 -- ---- an edit stored and its move made, then the group handed over
 -- the first part, and both
@@ -161,7 +222,20 @@ module _ (s : State) (e : Event) (g : ℕ) where
   unfolding completing closes
   ended-inner h = rw h (moved-stay _ (e .task) ∙ kept s g (e .task) (closing (task s (e .task))))
 
+  -- who is then handed the group: the next, if there is one
+  ended-inside : inner ≡ true → ended .next ≡ nobody
+  unfolding completing
+  ended-inside h = rw h
+
   module _ (h : inner ≡ false) where
+    ended-idle : len s g ≡ 0 → ended .next ≡ nobody
+    unfolding completing len
+    ended-idle n = rw (h, eq-eqb (len s g) 0 n)
+
+    ended-next : (len s g ≡ 0 → ⊥) → ended .next ≡ nextAt s g
+    unfolding completing len waiter
+    ended-next n = rw (h, ne-eqb (len s g) 0 n)
+
     ended-soft : kind (s .setup) (e .resource) ≡ short → len s g ≡ 0 → wholly (e .task) g ended s ≡ softens (s .setup) (e .task) freed
     unfolding completing closes frees len
     ended-soft z n = rw (h, eq-eqb (kind (s .setup) (e .resource)) short z, eq-eqb (len s g) 0 n) (moved-soften _ (e .task))
@@ -218,6 +292,16 @@ module _ (s : State) (e : Event) (g : ℕ) where
           ∙ handed-passes (givesWay (s .setup) (e .task) freed) g giveWay (nextAt s g) way-next (omega (arith, freed-tasks, u-in)) (omega (arith, freed-groups, g-in))
           ∙ moved-arrive _ (nextAt s g))
 
+-- no task has more requests open after a completion
+closing-depth : (l : List Task) (t u : ℕ) → getD (set l t (closing (getD l t noTask))) u noTask .depth ≤ getD l u noTask .depth
+closing-depth l t u = elim (ℕ-discrete u t) [
+  | no n ↦ omega (arith, ap (λ (x : Task). x .depth) (getD-set-other l t u (closing (getD l t noTask)) noTask n))
+  | yes h ↦ subst (λ (n : ℕ). getD (set l t (closing (getD l t noTask))) n noTask .depth ≤ getD l n noTask .depth) (sym h) (elim (decLt t (length l)) [
+    | yes i ↦ omega (arith, ap (λ (x : Task). x .depth) (getD-set-same l t (closing (getD l t noTask)) noTask i))
+    | no o ↦ omega (arith, ap (λ (k : List Task). getD k t noTask .depth) (set-out l t (closing (getD l t noTask)) (omega arith)))
+  ])
+]
+
 -- ---- the event of a task that may act, on the place g of its group where it has one
 module _ (s : State) (e : Event) (named : List ℕ) (can : CanAct s named e) where
   -- what the edit of the records needs
@@ -269,3 +353,36 @@ module _ (s : State) (e : Event) (named : List ℕ) (can : CanAct s named e) whe
         ]
       ]
     ]
+
+  -- who is handed the group is a task with room for one request more, before and after the first part
+  module _ (g : ℕ) (at : (asking ≤ e .kind) × (e .kind ≤ completion) → g ≡ groupOf (s .setup) (e .resource)) where
+    ended-pass : e .kind ≡ completion → (ended s e g .next ≡ nobody → ⊥) → (ended s e g .next ≡ nextAt s g) × CanPass s g
+    ended-pass k some = go (inner s e g) refl (ℕ-discrete (len s g) 0)
+      where
+        go : (b : Bool) → inner s e g ≡ b → Dec (len s g ≡ 0) → (ended s e g .next ≡ nextAt s g) × CanPass s g
+        go true h n = absurd (some (ended-inside s e g h))
+        go false h (yes n) = absurd (some (ended-idle s e g h n))
+        go false h (no n) = (ended-next s e g h n, subst (λ (i : ℕ). 0 < len s i → CanPass s i) (sym (at (omega arith, omega arith))) (can .completes k .next) (omega (arith, n)))
+
+    -- by a completion alone
+    next-by : (P : Edit → Type 0) → (e .kind ≡ completion → (ended s e g .next ≡ nobody → ⊥) → P (ended s e g)) → (editOf e g s .next ≡ nobody → ⊥) → P (editOf e g s)
+    next-by P f some = elim (ℕ-discrete (e .kind) completion) [
+      | no q ↦ absurd (some (editing-by (s .setup .kinds) (task s (e .task)) (group s g) (λ (d : Edit). d .next ≡ nobody) (period (s .setup) (e .task)) (s .clock) e refl refl (λ t r n z turn. refl) (λ k. absurd (q k))))
+      | yes k ↦ subst P (sym (edit-ended s e g k)) (f k (λ z. some (ap (λ (d : Edit). d .next) (edit-ended s e g k) ∙ z)))
+    ]
+
+    pub next-in : (editOf e g s .next ≡ nobody → ⊥) → (editOf e g s .next < mostTasks) × (task s (editOf e g s .next) .depth < mostRequests)
+    unfolding depth
+    next-in = next-by (λ (d : Edit). (d .next < mostTasks) × (task s (d .next) .depth < mostRequests)) (λ k some.
+        let w = ended-pass k some in
+        subst (λ (u : ℕ). (u < mostTasks) × (task s u .depth < mostRequests)) (sym (w .0)) (w .1 .inside, w .1 .room))
+
+    pub next-room : (editOf e g s .next ≡ nobody → ⊥)
+        → (let d = editOf e g s in task (movedBy (d .turn) (e .task) (stored (e .task) g d s)) (d .next) .depth < mostRequests)
+    unfolding movedBy depth
+    next-room = next-by (λ (d : Edit). getD (set (s .tasks) (e .task) (d .task)) (d .next) noTask .depth < mostRequests) (λ k some.
+        let w = ended-pass k some in
+        let same : ended s e g .task ≡ closing (task s (e .task)) = completing-by (s .setup .kinds) (task s (e .task)) (group s g) (λ (d : Edit). d .task ≡ closing (task s (e .task))) (e .resource) (λ z turn next. refl) in
+        subst (λ (u : ℕ). getD (set (s .tasks) (e .task) (ended s e g .task)) u noTask .depth < mostRequests) (sym (w .0))
+        (subst (λ (x : Task). getD (set (s .tasks) (e .task) x) (nextAt s g) noTask .depth < mostRequests) (sym same)
+        (omega (arith, closing-depth (s .tasks) (e .task) (nextAt s g), w .1 .room))))

@@ -84,8 +84,8 @@ editing kinds span clock x y e =
     else if e .kind is completion then completing kinds x y (e .resource)
     else keeping x y stay
 
--- `next`, with the record x, becomes holder of y, and what it asked for is open; where the completer gave way, the group
--- is long, and it resumes
+-- `next`, with the record x, becomes holder of y, and what it asked for is open; where the completer gave way, the
+-- group is long, and it resumes
 unfoldable pub handing : Task → Group → ℕ → ℕ → Edit
 handing x y turn next = record {
   task = opening (askedOf (x .standing)) (standingAs Active x);
