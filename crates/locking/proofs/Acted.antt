@@ -23,7 +23,7 @@ use Rattle.protocol.specs.declared.Standing.the-variants.{Active}
 use Rattle.protocol.specs.declared.Task.{Task}
 use Rattle.protocol.specs.declared.Group.{Group}
 use Rattle.protocol.specs.declared.State.{State}
-use Rattle.locking.specs.Acting.{CanPass, CanComplete, CanAct}
+use Rattle.locking.specs.Acting.{CanPass, CanAct}
 use Rattle.locking.specs.Edits.{stay, soften, arrive, leave, giveWay, openIn, keeping, requesting, completing, editing, handing, put, stored, movedBy, handed, editOf, acted}
 use Rattle.locking.specs.declared.acting.Edit.{Edit}
 use Rattle.locking.proofs.Branching.{request-open, request-spin, request-wait, complete-inner, complete-short, complete-long}
@@ -52,7 +52,7 @@ module _ (s : State) (t : ℕ) where
 
 -- ---- an edit, by what each kind of event makes of the records
 module _ (kinds : List ℕ) (x : Task) (y : Group) (P : Edit → Type 0) where
-  -- nobody is handed the group
+  -- P holds where x has another standing and other open requests, and nobody is handed the group
   abbrev Keeps : Type 0
   Keeps = (standing : Standing) (requests : List ℕ) (depth : ℕ) (z : Group) (turn : ℕ) → P (keeping (withRequests standing requests depth x) z turn)
 
@@ -133,12 +133,8 @@ module _ (s : State) (g : ℕ) where
   unfolding handed handing
   handed-passes turn u h lt lg = ap (movedBy (if turn is giveWay then arrive else stay) u) (passes-stored u h lt lg)
 
-  module _ (t : ℕ) (d : Edit) where
-    wholly-none : d .next ≡ nobody → wholly t g d s ≡ firstly t g d s
-    wholly-none h = rw (eq-eqb (d .next) nobody h)
-
-    wholly-some : (d .next ≡ nobody → ⊥) → wholly t g d s ≡ handed g (d .turn) (d .next) (firstly t g d s)
-    wholly-some h = rw (ne-eqb (d .next) nobody h)
+  wholly-some : (t : ℕ) (d : Edit) → (d .next ≡ nobody → ⊥) → wholly t g d s ≡ handed g (d .turn) (d .next) (firstly t g d s)
+  wholly-some t d h = rw (ne-eqb (d .next) nobody h)
 
 -- ---- an event
 module _ (s : State) (e : Event) (g : ℕ) where

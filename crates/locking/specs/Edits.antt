@@ -25,7 +25,8 @@ use Rattle.protocol.specs.declared.Group.{Group}
 use Rattle.protocol.specs.declared.State.{State}
 use Rattle.locking.specs.declared.acting.Edit.{Edit}
 
--- ---- the scheduler's moves, by number: `Edit::STAY` to `Edit::GIVE_WAY`
+-- ---- the scheduler's moves by number, `Edit::STAY` to `Edit::GIVE_WAY`: none, becoming preemptable, arriving or
+-- resuming, finishing or suspending, giving way
 abbrev pub stay : ℕ
 stay = 0
 
@@ -57,10 +58,12 @@ module _ (kinds : List ℕ) (x : Task) (y : Group) where
   requesting t r =
       if openIn kinds x r || y .holder is nobody
       then keeping (opening r x) (record { holder = t; queue = y .queue }) stay
-      else keeping
-      (standingAs (Waiting (lockOf (getD kinds r 0) r)) x)
-      (record { holder = y .holder; queue = appended (y .queue) t })
-      (if getD kinds r 0 is short then stay else leave)
+      else record {
+        task = standingAs (Waiting (lockOf (getD kinds r 0) r)) x;
+        group = record { holder = y .holder; queue = appended (y .queue) t };
+        turn = if getD kinds r 0 is short then stay else leave;
+        next = nobody;
+      }
 
   -- Completion of r. Inner: the request is closed, no more. Outermost: the group is free, for the queue's first job if
   -- any; the completer of a short becomes preemptable, that of a long gives way.
@@ -95,7 +98,7 @@ handing x y turn next = record {
 }
 
 -- ---- the event on the state
--- with the records of task t and group g stored
+-- with x as the record of task t and y as that of group g
 abbrev pub put : ℕ → ℕ → Task → Group → State → State
 put t g x y s = record {
   setup = s .setup;
@@ -105,6 +108,7 @@ put t g x y s = record {
   processors = s .processors;
 }
 
+-- with those of an edit
 abbrev pub stored : ℕ → ℕ → Edit → State → State
 stored t g d s = put t g (d .task) (d .group) s
 

@@ -26,7 +26,7 @@ pub struct Edit {
 }
 
 impl Edit {
-    // The moves: none; becoming preemptable; arriving or resuming; finishing or suspending; giving way.
+    // The scheduler's moves: none, becoming preemptable, arriving or resuming, finishing or suspending, giving way.
     pub const STAY: u8 = 0;
 
     pub const SOFTEN: u8 = 1;

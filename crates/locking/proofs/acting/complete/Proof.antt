@@ -4,7 +4,6 @@ use Rattle.locking.proofs.acting.complete.Statement.{statement}
 use Rattle.locking.proofs.acting.complete.Tie as tie
 
 closed-requires : tie.Need-closed-requires
-unfolding completing
 closed-requires c κs = c .pre
 
 kind-at-requires : tie.Need-kind-at-requires
@@ -24,11 +23,22 @@ row-requires-2 c κs = search needs
 
 returns : tie.Need-returns
 unfolding completing
-returns c = let h = rw ((c .before .has-kind) .ensures, (c .before .before .kind-at) .ensures, (c .before .before .before .before .before .closed) .ensures) at ((c .if1) .taken) in rw ((c .before .before .before .before .before .closed) .ensures, h)
+returns c =
+    let kind-at = c .before .before .kind-at in
+    let closed = c .before .before .before .before .before .closed in
+    let h = rw (c .before .has-kind .ensures, kind-at .ensures, closed .ensures) at (c .if1 .taken) in
+    rw (closed .ensures, h)
 
 returns-2 : tie.Need-returns-2
 unfolding completing
-returns-2 c = let h = rw ((c .before .before .before .before .before .has-kind) .ensures, (c .before .before .before .before .before .before .kind-at) .ensures, (c .before .before .before .before .before .before .before .before .before .closed) .ensures) at ((c .before .before .before .before .if1) .left) in rw ((c .before .before .before .row) .ensures, (c .row2) .ensures, (c .before .first) .ensures, (c .before .before .before .before .before .before .before .before .before .closed) .ensures, (c .before .before .before .before .before .before .kind-at) .ensures, h)
+returns-2 c =
+    let row = c .before .before .before .row in
+    let if1 = c .before .before .before .before .if1 in
+    let has-kind = c .before .before .before .before .before .has-kind in
+    let kind-at = c .before .before .before .before .before .before .kind-at in
+    let closed = c .before .before .before .before .before .before .before .before .before .closed in
+    let h = rw (has-kind .ensures, kind-at .ensures, closed .ensures) at (if1 .left) in
+    rw (row .ensures, c .row2 .ensures, c .before .first .ensures, closed .ensures, kind-at .ensures, h)
 
 pub complete-spec : {M : Type 1} → statement M
 complete-spec =

@@ -13,14 +13,18 @@ asked-of-requires : tie.Need-asked-of-requires
 asked-of-requires c κs = search needs
 
 opened-requires : tie.Need-opened-requires
-opened-requires c κs = rw ((c .before .with-standing) .ensures) ((c .before .before .before .before) .pre)
+opened-requires c κs = rw (c .before .with-standing .ensures) (c .before .before .before .before .pre)
 
 row-requires : tie.Need-row-requires
 row-requires c κs = search needs
 
 returns : tie.Need-returns
 unfolding handing
-returns c = rw ((c .row) .ensures, (c .before .opened) .ensures, (c .before .before .asked-of) .ensures, (c .before .before .before .with-standing) .ensures, (c .before .before .before .before .without-first) .ensures)
+returns c =
+    let asked-of = c .before .before .asked-of in
+    let with-standing = c .before .before .before .with-standing in
+    let without-first = c .before .before .before .before .without-first in
+    rw (c .row .ensures, c .before .opened .ensures, asked-of .ensures, with-standing .ensures, without-first .ensures)
 
 pub hand-over-spec : {M : Type 1} → statement M
 hand-over-spec =

@@ -10,8 +10,7 @@ has-kind-requires : tie.Need-has-kind-requires
 has-kind-requires c κs = search needs
 
 opened-requires : tie.Need-opened-requires
-unfolding requesting
-opened-requires c κs = (c .before .before .before .before .before .before) .pre
+opened-requires c κs = c .before .before .before .before .before .before .pre
 
 lock-of-requires : tie.Need-lock-of-requires
 lock-of-requires c κs = search needs
@@ -27,11 +26,22 @@ row-requires c κs = search needs
 
 returns : tie.Need-returns
 unfolding requesting
-returns c = let h = rw ((c .before .before .before .has-kind) .ensures, (c .before .before .before .before .kind-at) .ensures) at ((c .before .if1) .taken) in rw (h, (c .opened) .ensures)
+returns c =
+    let has-kind = c .before .before .before .has-kind in
+    let kind-at = c .before .before .before .before .kind-at in
+    let h = rw (has-kind .ensures, kind-at .ensures) at (c .before .if1 .taken) in
+    rw (h, c .opened .ensures)
 
 returns-2 : tie.Need-returns-2
 unfolding requesting
-returns-2 c = let h = rw ((c .before .before .before .before .before .before .has-kind) .ensures, (c .before .before .before .before .before .before .before .kind-at) .ensures) at ((c .before .before .before .before .if1) .left) in rw (h, (c .row) .ensures, (c .before .append) .ensures, (c .before .before .with-standing) .ensures, (c .before .before .before .lock-of) .ensures, (c .before .before .before .before .before .before .before .kind-at) .ensures)
+returns-2 c =
+    let if1 = c .before .before .before .before .if1 in
+    let has-kind = c .before .before .before .before .before .before .has-kind in
+    let kind-at = c .before .before .before .before .before .before .before .kind-at in
+    let with-standing = c .before .before .with-standing in
+    let lock-of = c .before .before .before .lock-of in
+    let h = rw (has-kind .ensures, kind-at .ensures) at (if1 .left) in
+    rw (h, c .row .ensures, c .before .append .ensures, with-standing .ensures, lock-of .ensures, kind-at .ensures)
 
 pub request-spec : {M : Type 1} → statement M
 request-spec =
