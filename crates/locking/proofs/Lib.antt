@@ -1,4 +1,5 @@
 pub mod Accepted
+pub mod Acted
 pub mod Along
 pub mod Bounded
 pub mod Branching

@@ -16,7 +16,7 @@ ghost use Rattle.protocol.specs.Locks.{opening, closing, arriving, departing, o
 ghost use Rattle.protocol.specs.Events.{withProcessors};
 
 // One request more is open.
-fn opened(task: Task, r: u8) -> Task
+pub fn opened(task: Task, r: u8) -> Task
     requires { ⌜ task .depth < mostRequests ⌝ }
     ensures { λ x. ⌜ x ≡ opening r task ⌝ }
 {
@@ -28,7 +28,7 @@ fn opened(task: Task, r: u8) -> Task
 }
 
 // The newest request is closed.
-fn closed(task: Task) -> Task
+pub fn closed(task: Task) -> Task
     requires { ⌜ (0 < task .depth) × (task .depth ≤ mostRequests) ⌝ }
     ensures { λ x. ⌜ x ≡ closing task ⌝ }
 {
@@ -100,7 +100,7 @@ pub fn with_processors(state: State, p: Processors) -> State
     next
 }
 
-fn lock_of(kind: u8, r: u8) -> Lock
+pub fn lock_of(kind: u8, r: u8) -> Lock
     ensures { λ l. ⌜ l ≡ lockOf kind r ⌝ }
 {
     if kind == SetUp::SHORT {

@@ -1,4 +1,5 @@
 // Locking: sessions stepped by events. Every public function answers for any content, by the rules of `protocol`.
+mod acting;
 mod clock;
 mod edits;
 mod events;

@@ -1,0 +1,163 @@
+// What an accepted event does to the records of its task and its group.
+use crate::edits::arrived;
+use crate::edits::closed;
+use crate::edits::departed;
+use crate::edits::lock_of;
+use crate::edits::opened;
+use input::Event;
+use input::SetUp;
+use protocol::Group;
+use protocol::Standing;
+use protocol::Task;
+ghost use mathlib.Core.Path.{_≡_};
+ghost use Prim.Native.Nat.{_≤_, _<_};
+ghost use Rattle.input.specs.Kinds.{request as asking, completion};
+ghost use Rattle.protocol.specs.Words.{mostRequests};
+ghost use Rattle.locking.specs.Edits.{requesting, completing, editing, handing};
+
+// The records of an event's task and group after it, the scheduler's move that follows, and who is then handed the
+// group. Both records are there whether or not they changed: so one sequence serves every kind of event, which reads
+// the two, stores them back and makes the move.
+pub struct Edit {
+    pub task: Task,
+    pub group: Group,
+    pub turn: u8,
+    pub next: u8,
+}
+
+impl Edit {
+    // The scheduler's moves: none, becoming preemptable, arriving or resuming, finishing or suspending, giving way.
+    pub const STAY: u8 = 0;
+
+    pub const SOFTEN: u8 = 1;
+
+    pub const ARRIVE: u8 = 2;
+
+    pub const LEAVE: u8 = 3;
+
+    pub const GIVE_WAY: u8 = 4;
+}
+
+// Task `t` requests `r`: it holds the group at once, or spins or suspends at the end of its queue.
+fn request(kinds: [u8; SetUp::RESOURCES], task: Task, group: Group, t: u8, r: u8) -> Edit
+    requires { ⌜ task .depth < mostRequests ⌝ }
+    ensures { λ x. ⌜ x ≡ requesting kinds task group t r ⌝ }
+{
+    let requests = task.requests;
+    let queue = group.queue;
+    let kind = tables::kind_at(kinds, r);
+    if tables::has_kind(kinds, requests, task.depth, kind) | (group.holder == Task::NOTHING) {
+        Edit {
+            task: opened(task, r),
+            group: Group { holder: t, queue },
+            turn: Edit::STAY,
+            next: Task::NOTHING,
+        }
+    } else {
+        let waits = tables::with_standing(task, Standing::Waiting(lock_of(kind, r)));
+        let line = queue.append(t);
+        Edit {
+            task: waits,
+            group: Group {
+                holder: group.holder,
+                queue: line,
+            },
+            turn: search::row(Edit::STAY, kind == SetUp::SHORT, Edit::LEAVE),
+            next: Task::NOTHING,
+        }
+    }
+}
+
+// The newest request, that of `r`, is closed; an outermost one frees the group for the first of its queue.
+fn complete(kinds: [u8; SetUp::RESOURCES], task: Task, group: Group, r: u8) -> Edit
+    requires { ⌜ (0 < task .depth) × (task .depth ≤ mostRequests) ⌝ }
+    ensures { λ x. ⌜ x ≡ completing kinds task group r ⌝ }
+{
+    let done = closed(task);
+    let requests = done.requests;
+    let queue = group.queue;
+    let kind = tables::kind_at(kinds, r);
+    if tables::has_kind(kinds, requests, done.depth, kind) {
+        Edit {
+            task: done,
+            group,
+            turn: Edit::STAY,
+            next: Task::NOTHING,
+        }
+    } else {
+        Edit {
+            task: done,
+            group: Group {
+                holder: Task::NOTHING,
+                queue,
+            },
+            turn: search::row(Edit::SOFTEN, kind == SetUp::SHORT, Edit::GIVE_WAY),
+            next: search::row(Task::NOTHING, queue.len == 0, queue.first()),
+        }
+    }
+}
+
+// Event `e` at `clock`, on the record of its task, with the task's period, and that of its group.
+pub fn edited(
+    kinds: [u8; SetUp::RESOURCES],
+    period: u16,
+    clock: u32,
+    task: Task,
+    group: Group,
+    e: Event,
+) -> Edit
+    requires { ⌜ (e .kind ≡ asking → task .depth < mostRequests)
+        × (e .kind ≡ completion → (0 < task .depth) × (task .depth ≤ mostRequests)) ⌝ }
+    ensures { λ x. ⌜ x ≡ editing kinds period clock task group e ⌝ }
+{
+    if e.kind == Event::ARRIVAL {
+        let due = (clock as u64) + (period as u64);
+        Edit {
+            task: arrived(task, clock, due),
+            group,
+            turn: Edit::ARRIVE,
+            next: Task::NOTHING,
+        }
+    } else if e.kind == Event::FINISH {
+        Edit {
+            task: departed(task),
+            group,
+            turn: Edit::LEAVE,
+            next: Task::NOTHING,
+        }
+    } else if e.kind == Event::REQUEST {
+        request(kinds, task, group, e.task, e.resource)
+    } else if e.kind == Event::COMPLETION {
+        complete(kinds, task, group, e.resource)
+    } else {
+        Edit {
+            task,
+            group,
+            turn: Edit::STAY,
+            next: Task::NOTHING,
+        }
+    }
+}
+
+// The queue's first job, task `next` with the record `task`, becomes holder of `group`, and what it asked for is open.
+// `turn` is the completer's move: where that gave way, the group is long, and `next` resumes.
+pub fn hand_over(task: Task, group: Group, turn: u8, next: u8) -> Edit
+    requires { ⌜ task .depth < mostRequests ⌝ }
+    ensures { λ x. ⌜ x ≡ handing task group turn next ⌝ }
+{
+    let standing = task.standing;
+    let queue = group.queue;
+    let rest = queue.without_first();
+    Edit {
+        task: opened(
+            tables::with_standing(task, Standing::Active),
+            states::asked_of(standing),
+        ),
+        group: Group {
+            holder: next,
+            queue: rest,
+        },
+        turn: search::row(Edit::ARRIVE, turn == Edit::GIVE_WAY, Edit::STAY),
+        next,
+    }
+}
