@@ -1,3 +1,4 @@
 pub mod Acting
 pub mod Playing
 pub mod Steps
+pub mod Totals

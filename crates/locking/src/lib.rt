@@ -1,5 +1,6 @@
 // Locking: sessions stepped by events. Every public function answers for any content, by the rules of `protocol`.
 mod clock;
+mod counting;
 mod edits;
 mod events;
 mod judging;
