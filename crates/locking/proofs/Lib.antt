@@ -5,3 +5,4 @@ pub mod Branching
 pub mod Charging
 pub mod Shapes
 pub mod Runs
+pub mod Totals
