@@ -6,3 +6,4 @@ pub mod Branching
 pub mod Charging
 pub mod Shapes
 pub mod Runs
+pub mod Totals

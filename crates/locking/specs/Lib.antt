@@ -2,3 +2,4 @@ pub mod Acting
 pub mod Edits
 pub mod Playing
 pub mod Steps
+pub mod Totals

@@ -1,6 +1,7 @@
 // Locking: sessions stepped by events. Every public function answers for any content, by the rules of `protocol`.
 mod acting;
 mod clock;
+mod counting;
 mod edits;
 mod events;
 mod judging;

@@ -1,0 +1,98 @@
+-- While a part of events is played, the totals of all tasks stand in one table of numbers, task after task. It counts;
+-- the totals in the records are old meanwhile.
+use Prim.Native.Nat.{ℕ, zero, suc, _+_, _*_, _/_, _%_, _≤_, _<_}
+use mathlib.Core.Path.{_≡_}
+use mathlib.Core.Bool.{_&&_}
+use mathlib.Core.List.{List}
+use lib.Dec.{ltb}
+use lib.ListN.{length, getD, set}
+use Rattle.search.specs.Words.{if_then_else_, _is_, _isn't_}
+use Rattle.search.specs.Table.{table}
+use Rattle.processors.specs.Limits.{processors}
+use Rattle.processors.specs.Words.{placeOf, linkOf, runOf}
+use Rattle.processors.specs.declared.Processors.{Processors}
+use Rattle.input.specs.Limits.{mostTasks}
+use Rattle.protocol.specs.Words.{totalCount, lastClock, absent, spinning, suspended, noTask}
+use Rattle.protocol.specs.Situations.{situationOf, totalOf}
+use Rattle.protocol.specs.declared.Situation.the-variants.{Running, Spinning, LinkedOnly, Ready, Suspended}
+use Rattle.protocol.specs.declared.Task.{Task}
+
+-- how many numbers the table has
+abbrev pub allTotals : ℕ
+allTotals = mostTasks * totalCount
+
+-- the totals of task t in the table
+abbrev pub rowOf : List ℕ → ℕ → List ℕ
+rowOf totals t = table (λ i. getD totals (totalCount * t + i) 0) totalCount
+
+-- a task's record with the totals w
+abbrev pub totalsAs : List ℕ → Task → Task
+totalsAs w x = record {
+  standing = x .standing;
+  deadline = x .deadline;
+  arrived = x .arrived;
+  last = x .last;
+  requests = x .requests;
+  depth = x .depth;
+  totals = w;
+}
+
+-- the records with the totals of the table
+unfoldable pub counted : List Task → List ℕ → List Task
+counted tasks totals = table (λ t. totalsAs (rowOf totals t) (getD tasks t noTask)) mostTasks
+
+-- the table of the totals in the records
+unfoldable pub totalsIn : List Task → List ℕ
+totalsIn tasks = table (λ k. getD (getD tasks (k / totalCount) noTask .totals) (k % totalCount) 0) allTotals
+
+-- a place for each task in a list of the processors' tasks, and as before for the others
+abbrev pub markedBy : ℕ → List ℕ → List ℕ → List ℕ
+markedBy place tasks places =
+    table (λ t. if ltb (placeOf tasks t) processors then place else getD places t 0) mostTasks
+
+-- the total of task t by the processors alone: of a job that neither spins nor is suspended
+abbrev pub placeBy : Processors → ℕ → ℕ
+placeBy p t =
+    if ltb (runOf p t) processors then totalOf Running
+    else if ltb (linkOf p t) processors then totalOf LinkedOnly
+    else totalOf Ready
+
+-- the total of a pending task with a standing, as a number, and a place by the processors
+abbrev pub totalBy : ℕ → ℕ → ℕ
+totalBy standing place =
+    if standing is suspended then totalOf Suspended
+    else if (standing is spinning && place is totalOf Running) then totalOf Spinning
+    else place
+
+-- the table with n added at place k, if the standing, as a number, is that of a pending task
+abbrev pub addedFor : ℕ → ℕ → ℕ → List ℕ → List ℕ
+addedFor standing k n totals = if standing isn't absent then set totals k (getD totals k 0 + n) else totals
+
+-- the table with n ticks charged to task t by its standing, as a number, and its place by the processors
+abbrev pub chargedBy : ℕ → ℕ → ℕ → ℕ → List ℕ → List ℕ
+chargedBy standing place n t totals = addedFor standing (totalCount * t + totalBy standing place) n totals
+
+module _ (p : Processors) (n : ℕ) (stands : List ℕ) where
+  -- where task t counts
+  abbrev pub countsAt : ℕ → ℕ
+  countsAt t = totalCount * t + totalOf (situationOf (getD stands t absent) p t)
+
+  -- the table with n ticks charged to task t, if it is pending
+  abbrev pub chargedAt : ℕ → List ℕ → List ℕ
+  chargedAt t totals = addedFor (getD stands t absent) (countsAt t) n totals
+
+  -- the table with n ticks charged to each pending task below i
+  unfoldable pub chargedTo : List ℕ → ℕ → List ℕ
+  chargedTo totals zero = totals
+  chargedTo totals (suc i) = chargedAt i (chargedTo totals i)
+
+-- the table is whole, and n ticks can be charged to any task
+pub record CanCharge (totals : List ℕ) (n : ℕ) : Type 0 where
+  pub whole : length totals ≡ allTotals
+  pub fits : (k : ℕ) → k < allTotals → getD totals k 0 + n ≤ lastClock
+
+-- the table is whole, and n ticks can be charged to task t
+pub record CanChargeTask (totals : List ℕ) (n t : ℕ) : Type 0 where
+  pub whole : length totals ≡ allTotals
+  pub inside : t < mostTasks
+  pub fits : (i : ℕ) → i < totalCount → getD totals (totalCount * t + i) 0 + n ≤ lastClock

@@ -1,0 +1,140 @@
+// The tick totals of all tasks in one table of numbers, and the ticks of an event charged there.
+use input::SetUp;
+use processors::Processors;
+use protocol::Task;
+ghost use mathlib.Core.Path.{_≡_};
+ghost use Prim.Native.Nat.{_≤_, _<_};
+ghost use lib.ListN.{length};
+ghost use Rattle.search.specs.Table.{table};
+ghost use Rattle.input.specs.Limits.{mostTasks};
+ghost use Rattle.protocol.specs.Words.{totalCount};
+ghost use Rattle.locking.specs.Totals.{allTotals, rowOf, totalsAs, counted, totalsIn, markedBy, placeBy, totalBy};
+ghost use Rattle.locking.specs.Totals.{chargedBy, chargedTo, CanCharge, CanChargeTask};
+
+// How many totals all tasks have.
+pub const ALL_TOTALS: usize = SetUp::TASKS * Task::TOTALS;
+
+// The numbers of the totals.
+const RUNNING: u8 = 0;
+
+const SPINNING: u8 = 1;
+
+const LINKED_ONLY: u8 = 2;
+
+const READY: u8 = 3;
+
+const SUSPENDED: u8 = 4;
+
+// The table of the totals in the records.
+pub fn totals_of(tasks: [Task; SetUp::TASKS]) -> [u32; ALL_TOTALS]
+    ensures { λ r. ⌜ r ≡ totalsIn tasks ⌝ }
+{
+    let mut totals = [0u32; ALL_TOTALS];
+    for k in 0..ALL_TOTALS {
+        let task = tasks[k / Task::TOTALS];
+        totals[k] = task.totals[k % Task::TOTALS];
+    }
+    totals
+}
+
+// The totals of task `t` in the table.
+fn row_of(totals: &[u32], t: usize) -> [u32; Task::TOTALS]
+    requires { ⌜ (t < mostTasks) × (length (now totals) ≡ allTotals) ⌝ }
+    ensures { λ r. ⌜ r ≡ rowOf (now (totals .entry)) t ⌝ }
+{
+    let k = Task::TOTALS * t;
+    [
+        totals[k],
+        totals[k + 1],
+        totals[k + 2],
+        totals[k + 3],
+        totals[k + 4],
+    ]
+}
+
+// The task with other totals.
+fn with_row(task: Task, row: [u32; Task::TOTALS]) -> Task
+    ensures { λ r. ⌜ r ≡ totalsAs row task ⌝ }
+{
+    let mut next = task;
+    next.totals = row;
+    next
+}
+
+// The records with the totals of the table.
+pub fn with_totals(tasks: [Task; SetUp::TASKS], totals: [u32; ALL_TOTALS]) -> [Task; SetUp::TASKS]
+    ensures { λ r. ⌜ r ≡ counted tasks totals ⌝ }
+{
+    let mut next = tasks;
+    for t in 0..SetUp::TASKS {
+        let task = next[t];
+        next[t] = with_row(task, row_of(&totals, t));
+    }
+    next
+}
+
+// Writes `place` for each task in a list of the processors' tasks.
+fn mark(places: &mut [u8], tasks: [u8; Processors::LIMIT], place: u8)
+    requires { ⌜ length (now places) ≡ mostTasks ⌝ }
+    ensures { λ _. ⌜ now (places .exit) ≡ markedBy place tasks (now (places .entry)) ⌝ }
+{
+    for k in 0..Processors::LIMIT {
+        let t = tasks[k] as usize;
+        if t < SetUp::TASKS {
+            places[t] = place;
+        }
+    }
+}
+
+// The total of each task by the processors alone: running, linked only or ready.
+fn places_of(p: Processors) -> [u8; SetUp::TASKS]
+    ensures { λ r. ⌜ r ≡ table (placeBy p) mostTasks ⌝ }
+{
+    let linked = p.linked;
+    let running = p.running;
+    let mut places = [READY; SetUp::TASKS];
+    mark(&mut places, linked, LINKED_ONLY);
+    mark(&mut places, running, RUNNING);
+    places
+}
+
+// The total of a pending task, whose standing has the number `stand`.
+fn total_by(stand: u8, place: u8) -> u8
+    ensures { λ r. ⌜ r ≡ totalBy stand place ⌝ }
+{
+    if stand == Task::SUSPENDED {
+        SUSPENDED
+    } else if (stand == Task::SPINNING) & (place == RUNNING) {
+        SPINNING
+    } else {
+        place
+    }
+}
+
+// Charges `ticks` to task `t`, if it is pending.
+fn charge_task(totals: &mut [u32], t: usize, stand: u8, place: u8, ticks: u16)
+    requires { ⌜ (place < totalCount) × CanChargeTask (now totals) ticks t ⌝ }
+    ensures { λ _. ⌜ now (totals .exit) ≡ chargedBy stand place ticks t (now (totals .entry)) ⌝ }
+{
+    if stand != Task::ABSENT {
+        let k = Task::TOTALS * t + (total_by(stand, place) as usize);
+        totals[k] = totals[k] + (ticks as u32);
+    }
+}
+
+// Charges `ticks` to each pending task among the first `tasks`. Their standings have the numbers `stands`.
+pub fn charge(
+    totals: &mut [u32],
+    stands: [u8; SetUp::TASKS],
+    p: Processors,
+    tasks: usize,
+    ticks: u16,
+)
+    requires { ⌜ (tasks ≤ mostTasks) × CanCharge (now totals) ticks ⌝ }
+    ensures { λ _. ⌜ now (totals .exit) ≡ chargedTo p ticks stands (now (totals .entry)) tasks ⌝ }
+{
+    let places = places_of(p);
+    for t in 0..tasks {
+        charge_task(totals, t, stands[t], places[t], ticks);
+    }
+}
