@@ -81,7 +81,7 @@ module _ (s : State) (e : Event) (Q : Sound s) (ok : judge s e ≡ 0) where
         | no x ↦ let y = T .tasks t .pending x in omega (arith, y .1, T .tasks t .arrived (y .0) .1, T .clock, short t)
       ])
 
-  inside : e .task < mostTasks
+  pub inside : e .task < mostTasks
   unfolding eventRows fieldsOf
   inside = elim (decLt (e .kind) passing) [
     | yes x ↦ omega (arith, row11 s e Q ok (omega (arith, event-kinds s e Q ok)), grouped s e Q ok .few-tasks)

@@ -20,6 +20,7 @@ use Rattle.protocol.proofs.Reflect.{Shaped, sound-of-test, test-of-sound}
 use Rattle.protocol.proofs.Step.{step-sound, step-setup}
 use Rattle.states.specs.Writing.{lineSize, lineOf, written}
 use Rattle.soundness.specs.declared.Tested.{Tested}
+use Rattle.locking.specs.Totals.{totalsAs}
 use Rattle.locking.specs.Steps.{HasParts}
 use Rattle.locking.specs.Playing.{playable, playedTo, replyTo, writtenTo}
 use Rattle.locking.proofs.Accepted.{unsound-stepped}
@@ -63,12 +64,13 @@ module _ (s : State) (part : List ℕ) where
 
   -- what the answer to one event more is made of
   pub parts-along : Shaped s → (n : ℕ) (x : State) → x ≡ playedTo s part n → (r : Tested) → r ≡ record { passes = sound s; named = names (s .setup) }
-      → (e : Event) (k : Task) → k ≡ task x (e .task) → HasParts x (s .setup) (x .clock) k (x .processors) (r .named) (r .passes) e
-  parts-along Z n x h r made e k reads =
+      → (e : Event) (k : Task) (w : List ℕ) → task x (e .task) ≡ totalsAs w k → HasParts x (s .setup) (x .clock) k (x .processors) (r .named) (r .passes) e
+  parts-along Z n x h r made e k w reads =
       let K = kept-along Z n in
       record {
         given = sym (ap (λ (y : State). y .setup) h ∙ K .1);
         timed = refl;
+    totals = w;
         recorded = reads;
         placed = refl;
         naming = ap (λ (y : Tested). y .named) made;

@@ -14,6 +14,7 @@ use Rattle.protocol.specs.Words.{nobody, task}
 use Rattle.protocol.specs.Sound.{sound}
 use Rattle.protocol.specs.declared.Task.{Task}
 use Rattle.protocol.specs.declared.State.{State}
+use Rattle.locking.specs.Totals.{totalsAs}
 
 -- r may not be requested while q is open: a long while a short is, or the same kind in another group
 abbrev pub isApart : List ℕ → List ℕ → ℕ → ℕ → Bool
@@ -21,12 +22,13 @@ isApart kinds named r q =
     (getD kinds r 0 is long && getD kinds q 0 is short)
     || (getD kinds q 0 is getD kinds r 0 && getD named q nobody isn't getD named r nobody)
 
--- what an event's answer is made of: the set-up, the clock, the record of the event's task and the processors of a state, the
--- groups of its set-up, and whether it is sound
+-- what an event's answer is made of: the set-up, the clock, the record of the event's task, whose totals it does not look
+-- at, and the processors of a state, the groups of its set-up, and whether it is sound
 pub record HasParts (s : State) (c : SetUp) (clock : ℕ) (k : Task) (p : Processors) (named : List ℕ) (known : Bool) (e : Event) : Type 0 where
   pub given : c ≡ s .setup
   pub timed : clock ≡ s .clock
-  pub recorded : k ≡ task s (e .task)
+  pub totals : List ℕ
+  pub recorded : task s (e .task) ≡ totalsAs totals k
   pub placed : p ≡ s .processors
   pub naming : named ≡ names c
   pub tested : known ≡ sound s

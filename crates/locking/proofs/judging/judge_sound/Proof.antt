@@ -1,7 +1,7 @@
 -- The rows of the code are those of the rule. Assumes nothing.
 use borrow.Author.Needs.{needs}
 use Prim.Native.Nat.{ℕ, _+_, _-_}
-use mathlib.Core.Path.{_≡_}
+use mathlib.Core.Path.{_≡_, sym, ap}
 use mathlib.Core.Bool.{Bool, true, not, _&&_, _||_}
 use mathlib.Core.List.{List, [], _++_}
 use lib.Dec.{leb, ltb}
@@ -16,7 +16,7 @@ use Rattle.setups.specs.Naming.{groupOf}
 use Rattle.input.specs.Kinds.{arrival, finish, request as asking, completion}
 use Rattle.input.specs.declared.SetUp.{SetUp}
 use Rattle.input.specs.declared.Event.{Event}
-use Rattle.protocol.specs.Words.{mostRequests, nobody, lastClock, absent, standingNo, stand, depth, request}
+use Rattle.protocol.specs.Words.{mostRequests, nobody, lastClock, absent, standingNo, task, stand, depth, request}
 use Rattle.protocol.specs.Situations.{situationOf, situation, hindrance}
 use Rattle.protocol.specs.Refusals.{ticksTo, misplaced, fieldRows, eventRows, judge}
 use Rattle.protocol.specs.declared.Task.{Task}
@@ -53,8 +53,13 @@ judged : (s : State) (e : Event) {c : SetUp} {clock : ℕ} {k : Task} {p : Proce
     → HasParts s c clock k p named true e
     → r10 ≡ judge s e
 unfolding judge eventRows stand depth request situation misplaced groupOf
-judged s e st x hin now per new r25 r24 mis r23 seen r22 r21 r20 r19 r18 r17 r16 r15 step r14 r10 has =
-    rw (r10, r14, r15, r16, r17, r18, r19, r20, r21, r22, r23, r24, r25, step, seen, mis, new, per, now, hin, x, st, has .recorded, has .naming, ← (has .tested), has .timed, has .placed, has .given)
+judged s e {k = k} st x hin now per new r25 r24 mis r23 seen r22 r21 r20 r19 r18 r17 r16 r15 step r14 r10 has =
+    let at-standing : k .standing ≡ task s (e .task) .standing = sym (ap (λ (x : Task). x .standing) (has .recorded)) in
+    let at-requests : k .requests ≡ task s (e .task) .requests = sym (ap (λ (x : Task). x .requests) (has .recorded)) in
+    let at-depth : k .depth ≡ task s (e .task) .depth = sym (ap (λ (x : Task). x .depth) (has .recorded)) in
+    let at-arrived : k .arrived ≡ task s (e .task) .arrived = sym (ap (λ (x : Task). x .arrived) (has .recorded)) in
+    let at-last : k .last ≡ task s (e .task) .last = sym (ap (λ (x : Task). x .last) (has .recorded)) in
+    rw (r10, r14, r15, r16, r17, r18, r19, r20, r21, r22, r23, r24, r25, step, seen, mis, new, per, now, hin, x, st, at-standing, at-requests, at-depth, at-arrived, at-last, has .naming, ← (has .tested), has .timed, has .placed, has .given)
 
 stand-of-requires : tie.Need-stand-of-requires
 stand-of-requires c κs = search needs

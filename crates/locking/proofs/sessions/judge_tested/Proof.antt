@@ -16,7 +16,7 @@ judge-parts-requires c κs = λ known.
 returns : tie.Need-returns
 returns c =
     let start = c .before .before .before .before .before in
-    c .judge-parts .ensures (start .args .state) (record { given = refl; timed = refl; recorded = c .before .task-at .ensures; placed = refl; naming = start .pre .1; tested = start .pre .0 })
+    c .judge-parts .ensures (start .args .state) (record { given = refl; timed = refl; totals = c .before .task-at .result .totals; recorded = sym (c .before .task-at .ensures); placed = refl; naming = start .pre .1; tested = start .pre .0 })
 
 pub judge-tested-spec : {M : Type 1} → statement M
 judge-tested-spec = tie.close (tie.spec task-at-requires judge-parts-requires returns)

@@ -1,0 +1,271 @@
+-- An accepted event on what is kept of a state: each step of the code keeps the state of the rules. Assumes nothing.
+use Prim.Native.Nat.{ℕ, _+_, _<_, _≤_}
+use mathlib.Core.Path.{_≡_, refl, sym, ap, _∙_, subst}
+use mathlib.Core.Bool.{Bool, true, false, _||_}
+use mathlib.Core.List.{List}
+use native.Mathlib.Omega.{arith}
+use native.Mathlib.Decide.{ℕ-discrete}
+use lib.ListN.{length, getD, set, length-set}
+use lib.Seq.{getD-set-same, getD-set-other}
+use borrow.Author.Tests.{eq-eqb, ne-eqb}
+use Rattle.search.specs.Words.{if_then_else_, _is_}
+use Rattle.search.proofs.Tables.{table-length}
+use Rattle.processors.specs.declared.Processors.{Processors}
+use Rattle.input.specs.Limits.{mostTasks, mostResources, short}
+use Rattle.input.specs.Words.{period}
+use Rattle.input.specs.Kinds.{arrival, finish, request as asking, completion}
+use Rattle.input.specs.declared.SetUp.{SetUp}
+use Rattle.input.specs.declared.Event.{Event}
+use Rattle.setups.specs.Naming.{names, groupOf}
+use Rattle.protocol.specs.Words.{nobody, absent, mostRequests, lastClock, noTask, noGroup, standingNo, stand, sum, task, group, deadline, depth}
+use Rattle.protocol.specs.Ranks.{jobs}
+use Rattle.protocol.specs.Refusals.{stepOf, judge}
+use Rattle.queue.specs.Waiting.{waiter, appended}
+use Rattle.protocol.specs.Locks.{standingAs, opening, closing, arriving, departing, lockOf}
+use Rattle.protocol.specs.declared.Standing.the-variants.{Waiting}
+use Rattle.protocol.specs.Events.{withProcessors, charged, cold, act, stepBy, step}
+use Rattle.protocol.specs.declared.Task.{Task}
+use Rattle.protocol.specs.declared.Group.{Group}
+use Rattle.protocol.specs.declared.State.{State}
+use Rattle.protocol.proofs.Statements.{Sound}
+use Rattle.protocol.proofs.Step.{grouped, steady-of}
+use Rattle.locking.specs.Acting.{CanAct}
+use Rattle.locking.specs.Edits.{arrive, leave, stay, soften, giveWay, openIn, keeping, requesting, completing, editing, handing, put, stored, movedWith, movedBy, handed, editOf, acted}
+use Rattle.locking.specs.Totals.{allTotals, rowOf, totalsAs, counted, chargedTo}
+use Rattle.locking.specs.Keeping.{rankBy, modeIn, Keeps}
+use Rattle.locking.specs.declared.acting.Edit.{Edit}
+use Rattle.locking.proofs.Accepted.{can-act, inside, room, charges}
+use Rattle.locking.proofs.Acted.{acted-act}
+use Rattle.locking.proofs.Keeping.{keeps-task, keeps-charge, keeps-store, keeps-move}
+
+-- ---- an edit takes the totals of a record along
+abbrev pub asEdit : List ℕ → Edit → Edit
+asEdit w d = record { task = totalsAs w (d .task); group = d .group; turn = d .turn; next = d .next }
+
+requested-as : (w kinds : List ℕ) (x : Task) (y : Group) (t r : ℕ) → requesting kinds (totalsAs w x) y t r ≡ asEdit w (requesting kinds x y t r)
+unfolding requesting
+requested-as w kinds x y t r = go (openIn kinds x r || y .holder is nobody)
+  where
+    granted : Task → Edit
+    granted z = keeping (opening r z) (record { holder = t; queue = y .queue }) stay
+
+    queued : Task → Edit
+    queued z = keeping (standingAs (Waiting (lockOf (getD kinds r 0) r)) z) (record { holder = y .holder; queue = appended (y .queue) t }) (if getD kinds r 0 is short then stay else leave)
+
+    go : (b : Bool) → (if b then granted (totalsAs w x) else queued (totalsAs w x)) ≡ asEdit w (if b then granted x else queued x)
+    go true = refl
+    go false = refl
+
+completed-as : (w kinds : List ℕ) (x : Task) (y : Group) (r : ℕ) → completing kinds (totalsAs w x) y r ≡ asEdit w (completing kinds x y r)
+unfolding completing
+completed-as w kinds x y r = go (openIn kinds (closing x) r)
+  where
+    outer : Task → Edit
+    outer z = record {
+      task = closing z;
+      group = record { holder = nobody; queue = y .queue };
+      turn = if getD kinds r 0 is short then soften else giveWay;
+      next = if y .queue .len is 0 then nobody else waiter (y .queue) 0;
+    }
+
+    go : (b : Bool) → (if b then keeping (closing (totalsAs w x)) y stay else outer (totalsAs w x)) ≡ asEdit w (if b then keeping (closing x) y stay else outer x)
+    go true = refl
+    go false = refl
+
+edited-as : (w kinds : List ℕ) (span clock : ℕ) (x : Task) (y : Group) (e : Event) → editing kinds span clock (totalsAs w x) y e ≡ asEdit w (editing kinds span clock x y e)
+unfolding editing
+edited-as w kinds span clock x y e =
+    go (e .kind is arrival) (e .kind is finish) (e .kind is asking) (e .kind is completion)
+    (requesting kinds x y (e .task) (e .resource)) (requesting kinds (totalsAs w x) y (e .task) (e .resource)) (requested-as w kinds x y (e .task) (e .resource))
+    (completing kinds x y (e .resource)) (completing kinds (totalsAs w x) y (e .resource)) (completed-as w kinds x y (e .resource))
+  where
+    comes : Task → Edit
+    comes z = keeping (arriving clock (clock + span) z) y arrive
+
+    goes : Task → Edit
+    goes z = keeping (departing z) y leave
+
+    go : (a b c d : Bool) (R R′ : Edit) → R′ ≡ asEdit w R → (C C′ : Edit) → C′ ≡ asEdit w C
+        → (if a then comes (totalsAs w x) else if b then goes (totalsAs w x) else if c then R′ else if d then C′ else keeping (totalsAs w x) y stay)
+        ≡ asEdit w (if a then comes x else if b then goes x else if c then R else if d then C else keeping x y stay)
+    go true b c d R R′ p C C′ q = refl
+    go false true c d R R′ p C C′ q = refl
+    go false false true d R R′ p C C′ q = p
+    go false false false true R R′ p C C′ q = q
+    go false false false false R R′ p C C′ q = refl
+
+handed-as : (w : List ℕ) (x : Task) (y : Group) (turn next : ℕ) → handing (totalsAs w x) y turn next ≡ asEdit w (handing x y turn next)
+unfolding handing
+handed-as w x y turn next = refl
+
+-- ---- an accepted event, from what is kept of a sound state; g is the place of its group
+module _ (s : State) (e : Event) (Q : Sound s) (ok : judge s e ≡ 0) (short-periods : (t : ℕ) → period (s .setup) t < 65536)
+    (clock : ℕ) (ts : List Task) (gs : List Group) (p : Processors) (totals own modes stands : List ℕ) (K : Keeps s clock ts gs p totals own modes stands)
+    (g : ℕ) (g-in : g < mostResources) (g-is : (asking ≤ e .kind) × (e .kind ≤ completion) → g ≡ groupOf (s .setup) (e .resource)) where
+  abbrev n : ℕ
+  n = stepOf s e
+
+  abbrev t : ℕ
+  t = e .task
+
+  abbrev kinds : List ℕ
+  kinds = s .setup .kinds
+
+  -- ---- the ticks are charged
+  abbrev s₁ : State
+  s₁ = charged n s
+
+  abbrev w : List ℕ
+  w = chargedTo p n stands totals (s .setup .tasks)
+
+  few : s .setup .tasks ≤ mostTasks
+  few = grouped s e Q ok .few-tasks
+
+  quiet : (u : ℕ) → s .setup .tasks ≤ u → u < mostTasks → stand s u ≡ absent
+  quiet u a b = elim (ℕ-discrete (stand s u) absent) [
+    | yes x ↦ x
+    | no x ↦ absurd (omega (arith, a, Q .steady .locks .tasks u .inside x))
+  ]
+
+  keeps₁ : Keeps s₁ (clock + n) ts gs p w own modes stands
+  keeps₁ = keeps-charge s clock ts gs p totals own modes stands K n (s .setup .tasks) few quiet
+
+  can : CanAct s₁ (names (s .setup)) e
+  can = can-act s e Q ok short-periods
+
+  t-in : t < mostTasks
+  t-in = can .inside
+
+  tasks-long : length (s₁ .tasks) ≡ mostTasks
+  unfolding charged
+  tasks-long = table-length _ mostTasks
+
+  groups-long : length (s₁ .groups) ≡ mostResources
+  unfolding charged
+  groups-long = Q .steady .sized .groups
+
+  -- ---- the first edit
+  abbrev d : Edit
+  d = editing kinds (period (s .setup) t) (clock + n) (getD ts t noTask) (getD gs g noGroup) e
+
+  first-edit : editOf e g s₁ ≡ asEdit (rowOf w t) d
+  unfolding charged
+  first-edit =
+      let span = period (s .setup) t in
+      ap (λ (k : ℕ). editing kinds span k (task s₁ t) (group s₁ g) e) (sym (keeps₁ .timed))
+      ∙ ap (λ (x : Task). editing kinds span (clock + n) x (group s₁ g) e) (keeps-task s₁ (clock + n) ts gs p w own modes stands keeps₁ t t-in)
+      ∙ ap (λ (l : List Group). editing kinds span (clock + n) (totalsAs (rowOf w t) (getD ts t noTask)) (getD l g noGroup) e) (sym (keeps₁ .grouped))
+      ∙ edited-as (rowOf w t) kinds span (clock + n) (getD ts t noTask) (getD gs g noGroup) e
+
+  abbrev s₂ : State
+  s₂ = stored t g (editOf e g s₁) s₁
+
+  abbrev ts₂ : List Task
+  ts₂ = set ts t (d .task)
+
+  abbrev gs₂ : List Group
+  gs₂ = set gs g (d .group)
+
+  abbrev own₂ : List ℕ
+  own₂ = set own t (rankBy (d .task .deadline) t)
+
+  abbrev modes₂ : List ℕ
+  modes₂ = set modes t (modeIn kinds (d .task))
+
+  abbrev stands₂ : List ℕ
+  stands₂ = set stands t (standingNo (d .task .standing))
+
+  pub keeps₂ : Keeps s₂ (clock + n) ts₂ gs₂ p w own₂ modes₂ stands₂
+  unfolding charged
+  keeps₂ = subst (λ (z : Edit). Keeps (stored t g z s₁) (clock + n) ts₂ gs₂ p w own₂ modes₂ stands₂) (sym first-edit)
+      (keeps-store s₁ (clock + n) ts gs p w own modes stands keeps₁ t g (d .task) (d .group) t-in tasks-long)
+
+  -- ---- the first move
+  abbrev s₃ : State
+  s₃ = movedBy (editOf e g s₁ .turn) t s₂
+
+  module _ (p₃ : Processors) (moves : p₃ ≡ movedWith (d .turn) p (jobs (s .setup) s₂) t) where
+    moved₃ : p₃ ≡ movedWith (editOf e g s₁ .turn) (s₂ .processors) (jobs (s₂ .setup) s₂) t
+    unfolding charged
+    moved₃ = moves ∙ ap (λ (k : ℕ). movedWith k p (jobs (s .setup) s₂) t) (sym (ap (λ (z : Edit). z .turn) first-edit))
+        ∙ ap (λ (q : Processors). movedWith (editOf e g s₁ .turn) q (jobs (s .setup) s₂) t) (keeps₁ .placed)
+
+    pub keeps₃ : Keeps s₃ (clock + n) ts₂ gs₂ p₃ w own₂ modes₂ stands₂
+    unfolding movedBy
+    keeps₃ = subst (λ (q : Processors). Keeps (withProcessors q s₂) (clock + n) ts₂ gs₂ p₃ w own₂ modes₂ stands₂) moved₃
+        (keeps-move s₂ (clock + n) ts₂ gs₂ p w own₂ modes₂ stands₂ keeps₂ p₃)
+
+    ends : acted e g s₁ ≡ step s e .state
+    unfolding charged step stepBy
+    ends = acted-act s₁ e (names (s .setup)) can tasks-long groups-long g g-is ∙ sym (rw (eq-eqb (judge s e) 0 ok))
+
+    -- nobody is handed the group
+    pub ends-there : d .next ≡ nobody → s₃ ≡ step s e .state
+    unfolding acted
+    ends-there h = sym (rw (eq-eqb (editOf e g s₁ .next) nobody (ap (λ (z : Edit). z .next) first-edit ∙ h))) ∙ ends
+
+    -- ---- the next is handed the group
+    module _ (some : d .next ≡ nobody → ⊥) where
+      abbrev u : ℕ
+      u = d .next
+
+      u-is : editOf e g s₁ .next ≡ u
+      u-is = ap (λ (z : Edit). z .next) first-edit
+
+      u-in : u < mostTasks
+      u-in = ?
+
+      abbrev d₄ : Edit
+      d₄ = handing (getD ts₂ u noTask) (getD gs₂ g noGroup) (d .turn) u
+
+      next-edit : handing (task s₃ u) (group s₃ g) (d .turn) u ≡ asEdit (rowOf w u) d₄
+      next-edit =
+          ap (λ (x : Task). handing x (group s₃ g) (d .turn) u) (keeps-task s₃ (clock + n) ts₂ gs₂ p₃ w own₂ modes₂ stands₂ keeps₃ u u-in)
+          ∙ ap (λ (l : List Group). handing (totalsAs (rowOf w u) (getD ts₂ u noTask)) (getD l g noGroup) (d .turn) u) (sym (keeps₃ .grouped))
+          ∙ handed-as (rowOf w u) (getD ts₂ u noTask) (getD gs₂ g noGroup) (d .turn) u
+
+      abbrev s₄ : State
+      s₄ = stored u g (handing (task s₃ u) (group s₃ g) (d .turn) u) s₃
+
+      abbrev ts₄ : List Task
+      ts₄ = set ts₂ u (d₄ .task)
+
+      abbrev gs₄ : List Group
+      gs₄ = set gs₂ g (d₄ .group)
+
+      abbrev own₄ : List ℕ
+      own₄ = set own₂ u (rankBy (d₄ .task .deadline) u)
+
+      abbrev modes₄ : List ℕ
+      modes₄ = set modes₂ u (modeIn kinds (d₄ .task))
+
+      abbrev stands₄ : List ℕ
+      stands₄ = set stands₂ u (standingNo (d₄ .task .standing))
+
+      tasks-long₃ : length (s₃ .tasks) ≡ mostTasks
+      unfolding movedBy
+      tasks-long₃ = length-set (s₁ .tasks) t (editOf e g s₁ .task) ∙ tasks-long
+
+      pub keeps₄ : Keeps s₄ (clock + n) ts₄ gs₄ p₃ w own₄ modes₄ stands₄
+      unfolding charged movedBy
+      keeps₄ = subst (λ (z : Edit). Keeps (stored u g z s₃) (clock + n) ts₄ gs₄ p₃ w own₄ modes₄ stands₄) (sym next-edit)
+          (keeps-store s₃ (clock + n) ts₂ gs₂ p₃ w own₂ modes₂ stands₂ keeps₃ u g (d₄ .task) (d₄ .group) u-in tasks-long₃)
+
+      abbrev s₅ : State
+      s₅ = movedBy (handing (task s₃ u) (group s₃ g) (d .turn) u .turn) u s₄
+
+      module _ (p₅ : Processors) (moves₅ : p₅ ≡ movedWith (d₄ .turn) p₃ (jobs (s .setup) s₄) u) where
+        moved₅ : p₅ ≡ movedWith (handing (task s₃ u) (group s₃ g) (d .turn) u .turn) (s₄ .processors) (jobs (s₄ .setup) s₄) u
+        unfolding charged movedBy
+        moved₅ = moves₅ ∙ ap (λ (k : ℕ). movedWith k p₃ (jobs (s .setup) s₄) u) (sym (ap (λ (z : Edit). z .turn) next-edit))
+            ∙ ap (λ (q : Processors). movedWith (handing (task s₃ u) (group s₃ g) (d .turn) u .turn) q (jobs (s .setup) s₄) u) (keeps₄ .placed)
+
+        pub keeps₅ : Keeps s₅ (clock + n) ts₄ gs₄ p₅ w own₄ modes₄ stands₄
+        unfolding movedBy
+        keeps₅ = subst (λ (q : Processors). Keeps (withProcessors q s₄) (clock + n) ts₄ gs₄ p₅ w own₄ modes₄ stands₄) moved₅
+            (keeps-move s₄ (clock + n) ts₄ gs₄ p₃ w own₄ modes₄ stands₄ keeps₄ p₅)
+
+        pub ends-handed : s₅ ≡ step s e .state
+        unfolding acted handed
+        ends-handed =
+            sym (rw (ne-eqb (editOf e g s₁ .next) nobody (λ q. some (sym u-is ∙ q)), u-is, ap (λ (z : Edit). z .turn) first-edit)) ∙ ends

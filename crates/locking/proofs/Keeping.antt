@@ -1,0 +1,123 @@
+-- What is kept while a part is played follows the state: at its start, when ticks are charged, when records are stored, and
+-- when the scheduler moves. Assumes nothing.
+use Prim.Native.Nat.{ℕ, _+_, _*_, _<_, _≤_}
+use mathlib.Core.Path.{_≡_, refl, sym, ap, _∙_}
+use mathlib.Core.Bool.{Bool, true, false}
+use mathlib.Core.List.{List}
+use native.Mathlib.Omega.{arith}
+use native.Mathlib.Decide.{ℕ-discrete}
+use lib.ListN.{length, getD, set, length-set}
+use lib.Seq.{getD-set-same, getD-set-other}
+use Rattle.search.specs.Words.{if_then_else_, _isn't_}
+use Rattle.search.specs.Table.{table}
+use Rattle.search.proofs.Tables.{table-length, table-at, table-of, table-same}
+use Rattle.processors.specs.declared.Processors.{Processors}
+use Rattle.input.specs.Limits.{mostTasks}
+use Rattle.protocol.specs.Words.{absent, totalCount, noTask, standingNo, stand, task}
+use Rattle.protocol.specs.Situations.{situation, totalOf}
+use Rattle.protocol.specs.Events.{withProcessors, counting, charged}
+use Rattle.protocol.specs.declared.Task.{Task}
+use Rattle.protocol.specs.declared.Group.{Group}
+use Rattle.protocol.specs.declared.State.{State}
+use Rattle.protocol.proofs.Reflect.{Shaped}
+use Rattle.locking.specs.Edits.{put}
+use Rattle.locking.specs.Totals.{allTotals, rowOf, totalsAs, counted, totalsIn, chargedTo}
+use Rattle.locking.specs.Keeping.{rankBy, modeIn, byTask, Keeps}
+use Rattle.locking.proofs.Totals.{counted-start, counted-at, counted-set, counted-charged, charged-length}
+
+totals-length : (ts : List Task) → length (totalsIn ts) ≡ allTotals
+unfolding totalsIn
+totals-length ts = table-length _ allTotals
+
+-- ---- a table by task, where one record is stored
+by-task-set : (f : ℕ → Task → ℕ) (l : List Task) (t : ℕ) (x : Task) → t < mostTasks → t < length l
+    → set (table (λ u. f u (getD l u noTask)) mostTasks) t (f t x) ≡ table (λ u. f u (getD (set l t x) u noTask)) mostTasks
+by-task-set f l t x h g = table-of (λ u. f u (getD (set l t x) u noTask)) (set (table (λ u. f u (getD l u noTask)) mostTasks) t (f t x)) mostTasks 0
+    (length-set (table (λ u. f u (getD l u noTask)) mostTasks) t (f t x) ∙ table-length _ mostTasks)
+    (λ i b. elim (ℕ-discrete i t) [
+      | yes e ↦ ap (λ (n : ℕ). getD (set (table (λ u. f u (getD l u noTask)) mostTasks) t (f t x)) n 0) e
+          ∙ getD-set-same (table (λ u. f u (getD l u noTask)) mostTasks) t (f t x) 0 (omega (arith, table-length (λ u. f u (getD l u noTask)) mostTasks))
+          ∙ ap (f t) (sym (getD-set-same l t x noTask g)) ∙ ap (λ (n : ℕ). f n (getD (set l t x) n noTask)) (sym e)
+      | no d ↦ getD-set-other (table (λ u. f u (getD l u noTask)) mostTasks) t i (f t x) 0 d ∙ table-at (λ u. f u (getD l u noTask)) mostTasks i 0 b
+          ∙ ap (f i) (sym (getD-set-other l t i x noTask d))
+    ])
+
+-- ---- charging changes nothing of a record but its totals
+charged-by : (f : Task → ℕ) → ((i n : ℕ) (x : Task) → f (counting i n x) ≡ f x) → (n : ℕ) (s : State) (t : ℕ) → t < mostTasks → f (task (charged n s) t) ≡ f (task s t)
+unfolding charged
+charged-by f keeps n s t l = ap f (table-at _ mostTasks t noTask l) ∙ go (stand s t isn't absent)
+  where
+    go : (b : Bool) → f (if b then counting (totalOf (situation s t)) n (task s t) else task s t) ≡ f (task s t)
+    go true = keeps _ _ _
+    go false = refl
+
+by-task-charged : (f : ℕ → Task → ℕ) → ((t i n : ℕ) (x : Task) → f t (counting i n x) ≡ f t x) → (n : ℕ) (s : State) → byTask f s ≡ byTask f (charged n s)
+by-task-charged f keeps n s = table-same _ _ mostTasks (λ t l. sym (charged-by (f t) (keeps t) n s t l))
+
+charged-setup : (n : ℕ) (s : State) → charged n s .setup ≡ s .setup
+unfolding charged
+charged-setup n s = refl
+
+-- ---- the state that is kept
+pub keeps-start : (s : State) → Shaped s → Keeps s (s .clock) (s .tasks) (s .groups) (s .processors) (totalsIn (s .tasks))
+    (byTask (λ t x. rankBy (x .deadline) t) s) (byTask (λ t x. modeIn (s .setup .kinds) x) s) (byTask (λ t x. standingNo (x .standing)) s)
+keeps-start s Z = record {
+  timed = refl;
+  recorded = sym (counted-start (s .tasks) (Z .sized .tasks) (Z .sized .totals));
+  grouped = refl;
+  placed = refl;
+  ranked = refl;
+  ready = refl;
+  stood = refl;
+  few = Z .sized .tasks;
+  all = totals-length (s .tasks);
+}
+
+module _ (s : State) (clock : ℕ) (ts : List Task) (gs : List Group) (p : Processors) (totals own modes stands : List ℕ) (K : Keeps s clock ts gs p totals own modes stands) where
+  pub keeps-task : (t : ℕ) → t < mostTasks → task s t ≡ totalsAs (rowOf totals t) (getD ts t noTask)
+  keeps-task t l = ap (λ (l : List Task). getD l t noTask) (K .recorded) ∙ counted-at ts totals t l
+
+  pub keeps-charge : (n m : ℕ) → m ≤ mostTasks → ((t : ℕ) → m ≤ t → t < mostTasks → stand s t ≡ absent)
+      → Keeps (charged n s) (clock + n) ts gs p (chargedTo p n stands totals m) own modes stands
+  unfolding charged stand
+  keeps-charge n m few quiet = record {
+    timed = ap (λ (x : ℕ). x + n) (K .timed);
+    recorded = counted-charged s ts totals stands n m (K .recorded) (K .all) (K .stood) few quiet ∙ ap (λ (q : Processors). counted ts (chargedTo q n stands totals m)) (sym (K .placed));
+    grouped = K .grouped;
+    placed = K .placed;
+    ranked = K .ranked ∙ by-task-charged (λ t x. rankBy (x .deadline) t) (λ t i n x. refl) n s;
+    ready = K .ready ∙ by-task-charged (λ t x. modeIn (s .setup .kinds) x) (λ t i n x. refl) n s;
+    stood = K .stood ∙ by-task-charged (λ t x. standingNo (x .standing)) (λ t i n x. refl) n s;
+    few = K .few;
+    all = charged-length p n stands totals m ∙ K .all;
+  }
+
+  pub keeps-store : (t g : ℕ) (x : Task) (y : Group) → t < mostTasks → length (s .tasks) ≡ mostTasks
+      → Keeps (put t g (totalsAs (rowOf totals t) x) y s) clock (set ts t x) (set gs g y) p totals
+          (set own t (rankBy (x .deadline) t)) (set modes t (modeIn (s .setup .kinds) x)) (set stands t (standingNo (x .standing)))
+  keeps-store t g x y l long =
+      let X = totalsAs (rowOf totals t) x in
+      record {
+        timed = K .timed;
+        recorded = ap (λ (a : List Task). set a t X) (K .recorded) ∙ sym (counted-set ts totals t x l (K .few));
+        grouped = ap (λ (a : List Group). set a g y) (K .grouped);
+        placed = K .placed;
+        ranked = ap (λ (a : List ℕ). set a t (rankBy (x .deadline) t)) (K .ranked) ∙ by-task-set (λ t x. rankBy (x .deadline) t) (s .tasks) t X l (omega (arith, long));
+        ready = ap (λ (a : List ℕ). set a t (modeIn (s .setup .kinds) x)) (K .ready) ∙ by-task-set (λ t x. modeIn (s .setup .kinds) x) (s .tasks) t X l (omega (arith, long));
+        stood = ap (λ (a : List ℕ). set a t (standingNo (x .standing))) (K .stood) ∙ by-task-set (λ t x. standingNo (x .standing)) (s .tasks) t X l (omega (arith, long));
+        few = length-set ts t x ∙ K .few;
+        all = K .all;
+      }
+
+  pub keeps-move : (q : Processors) → Keeps (withProcessors q s) clock ts gs q totals own modes stands
+  keeps-move q = record {
+    timed = K .timed;
+    recorded = K .recorded;
+    grouped = K .grouped;
+    placed = refl;
+    ranked = K .ranked;
+    ready = K .ready;
+    stood = K .stood;
+    few = K .few;
+    all = K .all;
+  }
