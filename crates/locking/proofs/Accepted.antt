@@ -109,6 +109,6 @@ module _ (s : State) (e : Event) (Q : Sound s) (ok : judge s e ≡ 0) where
         bounded = charged-bounded short;
         naming = refl;
         inside = inside;
-        asks = λ k. record { bounded = charged-bounded short; inside = inside; placed = g-in (omega arith); room = asks-of s e Q ok k .room };
-        completes = λ k. record { bounded = charged-bounded short; inside = inside; placed = g-in (omega arith); some = (let E = ends-of s e Q ok k in omega (arith, E .some)); few = steady-of s e Q ok .locks .tasks (e .task) .opened .few; next = can-pass (groupOf (s .setup) (e .resource)) };
+        asks = λ k. record { inside = inside; placed = g-in (omega arith); room = asks-of s e Q ok k .room };
+        completes = λ k. record { inside = inside; placed = g-in (omega arith); some = (let E = ends-of s e Q ok k in omega (arith, E .some)); few = steady-of s e Q ok .locks .tasks (e .task) .opened .few; next = can-pass (groupOf (s .setup) (e .resource)) };
       }

@@ -30,9 +30,10 @@ use Rattle.protocol.specs.declared.State.{State}
 use Rattle.protocol.proofs.Statements.{Sound}
 use Rattle.protocol.proofs.Step.{grouped, steady-of}
 use Rattle.locking.specs.Acting.{CanAct}
+use Rattle.views.specs.Bounds.{rankBy, modeIn}
 use Rattle.locking.specs.Edits.{arrive, leave, stay, soften, giveWay, openIn, keeping, requesting, completing, editing, handing, put, stored, movedWith, movedBy, handed, editOf, acted}
 use Rattle.locking.specs.Totals.{allTotals, rowOf, totalsAs, counted, chargedTo}
-use Rattle.locking.specs.Keeping.{rankBy, modeIn, Keeps}
+use Rattle.locking.specs.Keeping.{Keeps}
 use Rattle.locking.specs.declared.acting.Edit.{Edit}
 use Rattle.locking.proofs.Accepted.{can-act, inside, room, charges}
 use Rattle.locking.proofs.Acted.{acted-act}

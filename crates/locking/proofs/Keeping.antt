@@ -20,9 +20,10 @@ use Rattle.protocol.specs.declared.Task.{Task}
 use Rattle.protocol.specs.declared.Group.{Group}
 use Rattle.protocol.specs.declared.State.{State}
 use Rattle.protocol.proofs.Reflect.{Shaped}
+use Rattle.views.specs.Bounds.{rankBy, modeIn}
 use Rattle.locking.specs.Edits.{put}
 use Rattle.locking.specs.Totals.{allTotals, rowOf, totalsAs, counted, totalsIn, chargedTo}
-use Rattle.locking.specs.Keeping.{rankBy, modeIn, byTask, Keeps}
+use Rattle.locking.specs.Keeping.{byTask, Keeps}
 use Rattle.locking.proofs.Totals.{counted-start, counted-at, counted-set, counted-charged, charged-length}
 
 totals-length : (ts : List Task) → length (totalsIn ts) ≡ allTotals

@@ -1,9 +1,12 @@
 pub mod Accepted
+pub mod Accepting
 pub mod Acted
 pub mod Along
 pub mod Bounded
 pub mod Branching
 pub mod Charging
-pub mod Shapes
+pub mod Keeping
+pub mod Places
 pub mod Runs
+pub mod Shapes
 pub mod Totals

@@ -3,17 +3,12 @@ use Prim.Native.Nat.{ℕ, _<_, _≤_}
 use mathlib.Core.Path.{_≡_}
 use mathlib.Core.Bool.{true}
 use mathlib.Core.List.{List}
-use Rattle.search.specs.Words.{if_then_else_, _isn't_}
-use Rattle.processors.specs.declared.Processors.{Processors}
 use Rattle.input.specs.Limits.{mostTasks, mostResources}
 use Rattle.setups.specs.Naming.{names, groupOf}
 use Rattle.input.specs.Kinds.{request, completion}
 use Rattle.input.specs.declared.Event.{Event}
-use Rattle.protocol.specs.Words.{mostRequests, absent, standingNo, depth, len}
-use Rattle.protocol.specs.Situations.{situationOf, totalOf}
+use Rattle.protocol.specs.Words.{mostRequests, depth, len}
 use Rattle.protocol.specs.Locks.{nextAt}
-use Rattle.protocol.specs.Events.{counting}
-use Rattle.protocol.specs.declared.Task.{Task}
 use Rattle.protocol.specs.declared.State.{State}
 use Rattle.views.specs.Bounds.{isBounded}
 
@@ -24,14 +19,12 @@ pub record CanPass (s : State) (g : ℕ) : Type 0 where
 
 -- t has room for one request more, and g is a group's place
 pub record CanRequest (s : State) (t g : ℕ) : Type 0 where
-  pub bounded : isBounded s ≡ true
   pub inside : t < mostTasks
   pub placed : g < mostResources
   pub room : depth s t < mostRequests
 
 -- t has a request open, no more than can be, and g, a group's place, can be handed over if some task waits for it
 pub record CanComplete (s : State) (t g : ℕ) : Type 0 where
-  pub bounded : isBounded s ≡ true
   pub inside : t < mostTasks
   pub placed : g < mostResources
   pub some : 0 < depth s t
@@ -44,8 +37,3 @@ pub record CanAct (s : State) (named : List ℕ) (e : Event) : Type 0 where
   pub inside : e .task < mostTasks
   pub asks : e .kind ≡ request → CanRequest s (e .task) (groupOf (s .setup) (e .resource))
   pub completes : e .kind ≡ completion → CanComplete s (e .task) (groupOf (s .setup) (e .resource))
-
--- a task's record with n ticks charged to the total of its situation among the processors
-abbrev pub chargedTask : Processors → ℕ → ℕ → Task → Task
-chargedTask p n t x =
-    if standingNo (x .standing) isn't absent then counting (totalOf (situationOf (standingNo (x .standing)) p t)) n x else x

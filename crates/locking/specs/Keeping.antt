@@ -1,28 +1,18 @@
 -- What is kept of a state while a part of events is played: its records, whose totals stand in one table of numbers, and
 -- for each task three numbers that the moves and the charges look up.
-use Prim.Native.Nat.{ℕ, _+_, _*_}
+use Prim.Native.Nat.{ℕ}
 use mathlib.Core.Path.{_≡_}
 use mathlib.Core.List.{List}
-use lib.Dec.{leb}
-use lib.ListN.{length, getD}
-use Rattle.search.specs.Words.{if_then_else_, _is_}
-use Rattle.search.specs.Below.{anyBelow}
+use lib.ListN.{length}
 use Rattle.search.specs.Table.{table}
-use Rattle.processors.specs.Limits.{number}
 use Rattle.processors.specs.declared.Processors.{Processors}
-use Rattle.input.specs.Limits.{mostTasks, short}
-use Rattle.protocol.specs.Words.{nobody, standingNo, task}
-use Rattle.protocol.specs.Ranks.{modeFor}
+use Rattle.input.specs.Limits.{mostTasks}
+use Rattle.protocol.specs.Words.{standingNo, task}
 use Rattle.protocol.specs.declared.Task.{Task}
 use Rattle.protocol.specs.declared.Group.{Group}
 use Rattle.protocol.specs.declared.State.{State}
+use Rattle.views.specs.Bounds.{rankBy, modeIn}
 use Rattle.locking.specs.Totals.{allTotals, counted}
-
-abbrev pub rankBy : ℕ → ℕ → ℕ
-rankBy d t = if leb d 1099511627776 then d * 256 + t else 0
-
-abbrev pub modeIn : List ℕ → Task → ℕ
-modeIn kinds x = number (modeFor (x .standing) (anyBelow (x .depth) (λ i. getD kinds (getD (x .requests) i nobody) 0 is short)))
 
 -- a number of each task's record
 abbrev pub byTask : (ℕ → Task → ℕ) → State → List ℕ

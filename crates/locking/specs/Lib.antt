@@ -1,5 +1,6 @@
 pub mod Acting
 pub mod Edits
+pub mod Keeping
 pub mod Playing
 pub mod Steps
 pub mod Totals

@@ -5,13 +5,13 @@ mod counting;
 mod edits;
 mod events;
 mod judging;
+mod moving;
 mod playing;
-mod sessions;
 
+pub use events::judge;
+pub use events::step;
 pub use playing::play;
 use protocol::State;
-pub use sessions::judge;
-pub use sessions::step;
 
 // What a part's events gave: the state after those that were played, and how many they were.
 pub struct Played {

@@ -1,15 +1,19 @@
 // The events of a whole part, with one sound test.
 use crate::Played;
+use crate::acting::edited;
+use crate::acting::hand_over;
+use crate::counting::charge;
+use crate::counting::totals_of;
+use crate::counting::with_totals;
+use crate::clock::step_to;
 use crate::judging::judge_parts;
-use crate::sessions::after;
+use crate::moving::keep;
+use crate::moving::moved;
 use input::SetUp;
 use protocol::Reply;
 use protocol::State;
-ghost use mathlib.Core.Path.{_≡_};
-ghost use Prim.Native.Nat.{_+_, _≤_};
-ghost use lib.ListN.{length};
-ghost use Rattle.states.specs.Writing.{lineSize, written};
-ghost use Rattle.locking.specs.Playing.{played};
+use protocol::Task;
+use soundness::Tested;
 
 // Writes a line into `out` from `at` on, and gives the place behind it.
 fn put_line(out: &mut [u8], at: usize, line: [u8; Reply::LINE]) -> usize
@@ -22,36 +26,82 @@ fn put_line(out: &mut [u8], at: usize, line: [u8; Reply::LINE]) -> usize
     at + Reply::LINE
 }
 
+// The place of the group of resource `r`; the first place where it has none.
+fn place_in(named: [u8; SetUp::RESOURCES], r: u8) -> usize
+    ensures { λ g. ⌜ (g < mostResources) × (getD named r nobody < mostResources → g ≡ getD named r nobody) ⌝ }
+{
+    let g = tables::number_at(named, r) as usize;
+    if g < SetUp::RESOURCES { g } else { 0 }
+}
+
+fn play_events(state: State, tested: Tested, part: &[u8], count: usize, out: &mut [u8]) -> State
+{
+    let setup = state.setup;
+    let kinds = setup.kinds;
+    let periods = setup.periods;
+    let named = tested.named;
+    let mut clock = state.clock;
+    let mut tasks = state.tasks;
+    let mut groups = state.groups;
+    let mut p = state.processors;
+    let mut totals = totals_of(tasks);
+    let mut own = views::own_ranks(tasks);
+    let mut modes = views::modes_of(kinds, tasks);
+    let mut stands = states::stands_of(tasks);
+    let mut at = 0;
+    for i in 0..count {
+        let e = input::event_at(part, i);
+        let t = e.task as usize;
+        let task = if t < SetUp::TASKS {
+            tasks[t]
+        } else {
+            tables::no_task()
+        };
+        let answer = judge_parts(setup, clock, task, p, named, tested.passes, e);
+        if answer == 0 {
+            let ticks = step_to(clock, e.tick);
+            charge(&mut totals, stands, p, setup.tasks, ticks);
+            clock = clock + (ticks as u32);
+            let g = place_in(named, e.resource);
+            let held = groups[g];
+            let edit = edited(kinds, tables::period_at(periods, e.task), clock, task, held, e);
+            let mine = edit.task;
+            let group = edit.group;
+            tasks[t] = mine;
+            groups[g] = group;
+            keep(&mut own, &mut modes, &mut stands, kinds, mine, e.task);
+            p = moved(edit.turn, p, own, modes, setup, groups, e.task);
+            if edit.next != Task::NOTHING {
+                let u = edit.next as usize;
+                let waits = tasks[u];
+                let given = hand_over(waits, group, edit.turn, edit.next);
+                let heir = given.task;
+                let line = given.group;
+                tasks[u] = heir;
+                groups[g] = line;
+                keep(&mut own, &mut modes, &mut stands, kinds, heir, edit.next);
+                p = moved(given.turn, p, own, modes, setup, groups, edit.next);
+            }
+        }
+        at = put_line(out, at, states::line_of(answer, p));
+    }
+    State {
+        setup,
+        clock,
+        tasks: with_totals(tasks, totals),
+        groups,
+        processors: p,
+    }
+}
+
 // Plays as many events as `part` has whole and `out` has room for; the state after them, and how many they were.
 pub fn play(state: State, part: &[u8], out: &mut [u8]) -> Played
     ensures { λ r. ⌜ (r, now (out .exit)) ≡ played state (now (part .entry)) (now (out .entry)) ⌝ }
 {
     let tested = soundness::test(state);
-    let named = tested.named;
-    let is_sound = tested.passes;
     let events = input::event_count(part);
     let room = out.len() / Reply::LINE;
     let count = if events < room { events } else { room };
-    let setup = state.setup;
-    let mut at = 0;
-    let mut now_state = state;
-    for i in 0..count {
-        let e = input::event_at(part, i);
-        let t = e.task as usize;
-        let task = if t < SetUp::TASKS {
-            now_state.tasks[t]
-        } else {
-            tables::no_task()
-        };
-        let before = now_state.processors;
-        let answer = judge_parts(setup, now_state.clock, task, before, named, is_sound, e);
-        let next = after(now_state, named, e, answer);
-        let p = next.processors;
-        at = put_line(out, at, states::line_of(answer, p));
-        now_state = next;
-    }
-    Played {
-        state: now_state,
-        count,
-    }
+    let next = play_events(state, tested, part, count, out);
+    Played { state: next, count }
 }
