@@ -8,13 +8,11 @@ use processors::mode_of;
 use processors::place_on;
 use processors::runs_at;
 ghost use mathlib.Core.Path.{_≡_};
-ghost use Prim.Native.Nat.{_<_};
-ghost use mathlib.Core.Bool.{_&&_};
 ghost use mathlib.Core.List.{[]};
 ghost use Rattle.search.specs.First.{bit, mask};
 ghost use Rattle.search.specs.Best.{better};
 ghost use Rattle.processors.specs.Limits.{processors};
-ghost use Rattle.processors.specs.Words.{told, link};
+ghost use Rattle.processors.specs.Words.{told};
 ghost use Rattle.scheduler.specs.Arriving.{isUsed, isFree, lowestFree, linksLower, lowestLinked, isPreempted, displacing, taken, arriving};
 
 fn is_free(p: Processors, k: usize) -> bool
@@ -120,8 +118,8 @@ fn take(p: Processors, k: usize) -> usize
     if is_taken { k } else { lowest_free(p) }
 }
 
-// The job of `t` arrives or resumes, and the tables have it so: on processor `k` if it is unlinked, else on the lowest-numbered
-// that is. `Processors::NOBODY` suggests none.
+// The job of `t` arrives or resumes, and the tables have it so: on processor `k` if it is unlinked, else on the
+// lowest-numbered that is. `Processors::NOBODY` suggests none.
 pub fn arrive(
     p: Processors,
     ranks: &[u64; Jobs::LIMIT],
