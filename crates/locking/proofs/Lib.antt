@@ -3,6 +3,7 @@ pub mod Along
 pub mod Bounded
 pub mod Branching
 pub mod Charging
+pub mod Places
 pub mod Shapes
 pub mod Runs
 pub mod Totals
