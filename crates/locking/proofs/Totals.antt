@@ -3,42 +3,45 @@
 use Prim.Native.Nat.{ℕ, zero, suc, _+_, _*_, _/_, _%_, _≤_, _<_}
 use mathlib.Core.Path.{_≡_, refl, sym, ap, _∙_}
 use mathlib.Core.Bool.{Bool, true, false}
-use mathlib.Core.List.{List}
+use mathlib.Core.List.{List, [], _∷_}
 use native.Mathlib.Decide.{ℕ-discrete, decLt}
+use native.Mathlib.Numerals.{add-one}
 use native.Mathlib.Omega.{arith}
-use lib.Dec.{ltb}
 use lib.ListN.{length, getD, set, length-set}
 use lib.Seq.{getD-set-same, getD-set-other}
 use borrow.Author.Tests.{eq-eqb, ne-eqb}
-use Rattle.search.specs.Words.{if_then_else_, _is_, _isn't_}
+use Rattle.search.specs.Words.{if_then_else_, _isn't_}
 use Rattle.search.specs.Table.{table}
 use Rattle.search.proofs.Tables.{table-length, table-at, table-of, table-same}
-use Rattle.processors.specs.Limits.{processors}
-use Rattle.processors.specs.Words.{linkOf, runOf}
 use Rattle.processors.specs.declared.Processors.{Processors}
 use Rattle.input.specs.Limits.{mostTasks}
-use Rattle.protocol.specs.Words.{totalCount, absent, spinning, suspended, sum, noTask, task, stand}
+use Rattle.protocol.specs.Words.{totalCount, absent, sum, noTask, task, stand}
 use Rattle.protocol.specs.Situations.{situationOf, situation, totalOf}
 use Rattle.protocol.specs.Events.{counting, charged}
 use Rattle.protocol.specs.declared.Task.{Task}
 use Rattle.protocol.specs.declared.State.{State}
-use Rattle.locking.specs.Totals.{allTotals, rowOf, totalsAs, counted, totalsIn, placeBy, totalBy, addedFor, countsAt, chargedAt, chargedTo}
+use Rattle.locking.specs.Totals.{allTotals, rowOf, totalsAs, counted, totalsIn, placeBy, addedFor, chargedBy, countsAt, chargedAt, chargedTo, CanCharge, CanChargeTask}
 use Rattle.locking.proofs.Charging.{total-low, at-sum}
+use Rattle.locking.proofs.Places.{total-by-place}
 
 -- ---- the records with the totals of the table
+-- each of them
+abbrev pub recordIn : List Task → List ℕ → ℕ → Task
+recordIn ts w t = totalsAs (rowOf w t) (getD ts t noTask)
+
 pub counted-length : (ts : List Task) (w : List ℕ) → length (counted ts w) ≡ mostTasks
 unfolding counted
-counted-length ts w = table-length (λ t. totalsAs (rowOf w t) (getD ts t noTask)) mostTasks
+counted-length ts w = table-length (recordIn ts w) mostTasks
 
 pub counted-at : (ts : List Task) (w : List ℕ) (t : ℕ) → t < mostTasks → getD (counted ts w) t noTask ≡ totalsAs (rowOf w t) (getD ts t noTask)
 unfolding counted
-counted-at ts w t h = table-at (λ t. totalsAs (rowOf w t) (getD ts t noTask)) mostTasks t noTask h
+counted-at ts w t h = table-at (recordIn ts w) mostTasks t noTask h
 
 -- a list with such records at its places
 counted-of : (ts : List Task) (w : List ℕ) (l : List Task) → length l ≡ mostTasks
     → ((t : ℕ) → t < mostTasks → getD l t noTask ≡ totalsAs (rowOf w t) (getD ts t noTask)) → l ≡ counted ts w
 unfolding counted
-counted-of ts w l h at = table-of (λ t. totalsAs (rowOf w t) (getD ts t noTask)) l mostTasks noTask h at
+counted-of ts w l h at = table-of (recordIn ts w) l mostTasks noTask h at
 
 -- a record set
 pub counted-set : (ts : List Task) (w : List ℕ) (t : ℕ) (x : Task) → t < mostTasks → length ts ≡ mostTasks
@@ -56,12 +59,16 @@ counted-set ts w t x h l =
     ]
 
 -- ---- the table of the totals in the records
+-- each of its numbers
+abbrev pub totalIn : List Task → ℕ → ℕ
+totalIn ts k = getD (getD ts (k / totalCount) noTask .totals) (k % totalCount) 0
+
 totals-at : (ts : List Task) (t i : ℕ) → t < mostTasks → i < totalCount → getD (totalsIn ts) (totalCount * t + i) 0 ≡ getD (getD ts t noTask .totals) i 0
 unfolding totalsIn
 totals-at ts t i h g =
     let q : (totalCount * t + i) / totalCount ≡ t = omega arith in
     let r : (totalCount * t + i) % totalCount ≡ i = omega arith in
-    table-at (λ k. getD (getD ts (k / totalCount) noTask .totals) (k % totalCount) 0) allTotals (totalCount * t + i) 0 (omega arith) ∙ rw (q, r)
+    table-at (totalIn ts) allTotals (totalCount * t + i) 0 (omega arith) ∙ rw (q, r)
 
 totals-row : (ts : List Task) (t : ℕ) → t < mostTasks → length (getD ts t noTask .totals) ≡ totalCount → getD ts t noTask .totals ≡ rowOf (totalsIn ts) t
 totals-row ts t h l = table-of (λ i. getD (totalsIn ts) (totalCount * t + i) 0) (getD ts t noTask .totals) totalCount 0 l (λ i g. sym (totals-at ts t i h g))
@@ -203,3 +210,35 @@ counted-low s ts w e b sums k h =
     let own : task s t .totals ≡ rowOf w t = ap (λ (y : List Task). getD y t noTask .totals) e ∙ ap (λ (y : Task). y .totals) (counted-at ts w t (omega arith)) in
     let read : getD (task s t .totals) i 0 ≡ getD w k 0 = ap (λ (y : List ℕ). getD y i 0) own ∙ table-at (λ j. getD w (totalCount * t + j) 0) totalCount i 0 (omega arith) ∙ ap (λ (j : ℕ). getD w j 0) place in
     omega (arith, read, at-sum (task s t .totals) i, sums t (omega arith))
+
+-- ---- the loops of the code
+-- a row read number by number
+pub row-read : (w : List ℕ) (t : ℕ) → (
+    getD w (totalCount * t) 0
+    ∷ getD w (totalCount * t + 1) 0
+    ∷ getD w (totalCount * t + 2) 0
+    ∷ getD w (totalCount * t + 3) 0
+    ∷ getD w (totalCount * t + 4) 0
+    ∷ []
+    ) ≡ rowOf w t
+unfolding table
+row-read w t =
+    let e : totalCount * t ≡ totalCount * t + 0 = omega arith in
+    ap (λ k. getD w k 0 ∷ getD w (totalCount * t + 1) 0 ∷ getD w (totalCount * t + 2) 0 ∷ getD w (totalCount * t + 3) 0 ∷ getD w (totalCount * t + 4) 0 ∷ []) e
+
+module _ (p : Processors) (n : ℕ) (stands w : List ℕ) (t : ℕ) where
+  -- the table before task t is charged
+  pub charge-can : CanCharge w n → t < mostTasks → CanChargeTask (chargedTo p n stands w t) n t
+  charge-can can h = record {
+    whole = charged-length p n stands w t ∙ can .whole;
+    inside = h;
+    fits = λ i g. rw (charged-kept p n stands w t (totalCount * t + i) (omega arith)) (can .fits (totalCount * t + i) (omega arith));
+  }
+
+  -- and after it
+  pub charge-turn : (place : ℕ) → place ≡ placeBy p t → chargedBy (getD stands t absent) place n t (chargedTo p n stands w t) ≡ chargedTo p n stands w (t + 1)
+  unfolding chargedTo
+  charge-turn place e = rw (add-one t, e) (elim (ℕ-discrete (getD stands t absent) absent) [
+    | yes g ↦ rw (eq-eqb (getD stands t absent) absent g)
+    | no d ↦ ap (λ i. addedFor (getD stands t absent) (totalCount * t + i) n (chargedTo p n stands w t)) (total-by-place (getD stands t absent) t p d)
+  ])
