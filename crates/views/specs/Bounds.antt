@@ -1,19 +1,23 @@
--- Within which bounds the ranks of a state fit their type, and the view of jobs within them. Every state that the sound
--- test has not refused by its set-up, clock and times is within them: `ViewIsRuled` of soundness/specs/Parts.
-use Prim.Native.Nat.{ℕ}
+-- Within which bounds the ranks of a state fit their type, and what is told of its jobs, from its parts. Every state that
+-- the sound test has not refused by its set-up, clock and times is within them: `ViewIsRuled` of soundness/specs/Parts.
+use Prim.Native.Nat.{ℕ, _+_, _*_, min}
 use mathlib.Core.Bool.{Bool, _&&_}
 use mathlib.Core.List.{List}
 use lib.Dec.{leb, ltb}
-use lib.ListN.{getD, replicate}
+use lib.ListN.{getD}
 use Rattle.search.specs.Words.{if_then_else_, _is_}
 use Rattle.search.specs.Below.{allBelow, anyBelow}
-use Rattle.processors.specs.Words.{noJob}
-use Rattle.processors.specs.declared.Job.{Job}
+use Rattle.search.specs.First.{first}
+use Rattle.search.specs.Table.{table}
+use Rattle.queue.specs.Waiting.{waiter}
+use Rattle.queue.specs.declared.Queue.{Queue}
+use Rattle.processors.specs.Words.{told}
 use Rattle.processors.specs.declared.Jobs.{Jobs}
-use Rattle.input.specs.Limits.{mostTasks, mostResources, short}
-use Rattle.protocol.specs.Words.{nobody, task}
-use Rattle.protocol.specs.Ranks.{modeFor, jobs}
+use Rattle.input.specs.Limits.{mostTasks, mostResources, short, long}
+use Rattle.protocol.specs.Words.{nobody, noTask, noGroup, task}
+use Rattle.protocol.specs.Ranks.{leastOf, modeFor}
 use Rattle.protocol.specs.declared.Task.{Task}
+use Rattle.protocol.specs.declared.Group.{Group}
 use Rattle.protocol.specs.declared.State.{State}
 
 -- two to the 40: no deadline of a sound state is past it
@@ -24,18 +28,36 @@ latest = 1099511627776
 unfoldable pub isBounded : State → Bool
 isBounded s = leb (s .setup .resources) mostResources && allBelow mostTasks (λ t. leb (task s t .deadline) latest)
 
-unfoldable pub noJobs : Jobs
-noJobs = record { of = replicate mostTasks noJob }
+-- ---- ranks
+-- a task's own rank by its deadline; 0 where that is past the latest, which no sound state has
+abbrev pub rankBy : ℕ → ℕ → ℕ
+rankBy d t = if leb d latest then d * 256 + t else 0
 
--- the jobs of a state, or none where it is past its bounds
-unfoldable pub jobsWithin : State → Jobs
-jobsWithin s = if isBounded s then jobs (s .setup) s else noJobs
-
--- ---- the same from the parts of a state
 -- a task's own rank in a table of them; past the table, that of no task
 abbrev pub rankAt : List ℕ → ℕ → ℕ
-rankAt ranks t = if ltb t mostTasks then getD ranks t 0 else t
+rankAt own t = if ltb t mostTasks then getD own t 0 else t
 
--- the job of a task with its effective rank
-abbrev pub jobWith : List ℕ → Task → ℕ → Job
-jobWith kinds x rank = record { rank = rank; mode = modeFor (x .standing) (anyBelow (x .depth) (λ i. getD kinds (getD (x .requests) i nobody) 0 is short)) }
+-- the least of the own rank of t and those of the tasks that wait in a queue
+abbrev pub raisedBy : List ℕ → Queue → ℕ → ℕ
+raisedBy own q t = leastOf (λ i. rankAt own (waiter q i)) (q .len) (getD own t 0)
+
+-- the first of the n groups from k on that is long and that t holds; k + n where there is none
+abbrev pub heldFrom : List ℕ → List Group → ℕ → ℕ → ℕ → ℕ
+heldFrom kinds groups k n t = first (λ g. getD kinds g 0 is long && getD groups g noGroup .holder is t) k n
+
+-- the effective rank of t, where there are n groups; as in `effective`, who holds none is raised by what waits at place n,
+-- where nobody does in a sound state
+abbrev pub rankWith : List ℕ → List ℕ → ℕ → List Group → ℕ → ℕ
+rankWith own kinds n groups t = raisedBy own (getD groups (heldFrom kinds groups 0 n t) noGroup .queue) t
+
+-- ---- modes and jobs
+-- the mode of a task
+abbrev pub modeIn : List ℕ → Task → ℕ
+modeIn kinds x = modeFor (x .standing) (anyBelow (x .depth) (λ i. getD kinds (getD (x .requests) i nobody) 0 is short))
+
+-- what the scheduler is told of the jobs, by the kinds and the count of the resources, the tasks and the groups
+unfoldable pub jobsIn : List ℕ → ℕ → List Task → List Group → Jobs
+jobsIn kinds resources tasks groups =
+    let own = table (λ t. rankBy (getD tasks t noTask .deadline) t) mostTasks in
+    told (table (rankWith own kinds (min resources mostResources) groups) mostTasks)
+        (table (λ t. modeIn kinds (getD tasks t noTask)) mostTasks)

@@ -1,75 +1,53 @@
-// Priorities, and the view of jobs that the scheduler is told.
+// Priorities and modes, and the view of jobs that the scheduler is told.
 use input::SetUp;
-use processors::Job;
 use processors::Jobs;
-use processors::Mode;
+use protocol::Group;
 use protocol::Lock;
 use protocol::Standing;
-use protocol::State;
 use protocol::Task;
 use queue::Queue;
 ghost use mathlib.Core.Path.{_≡_};
-ghost use mathlib.Core.Bool.{true};
-ghost use Prim.Native.Nat.{suc, _+_, _*_, _≤_, min};
-ghost use lib.Dec.{leb};
-ghost use lib.ListN.{getD, set};
-ghost use Rattle.search.specs.Words.{if_then_else_, _is_};
-ghost use Rattle.search.specs.Below.{allBelow};
+ghost use Prim.Native.Nat.{suc, min};
+ghost use lib.ListN.{getD};
 ghost use Rattle.search.specs.Table.{table};
 ghost use Rattle.queue.specs.Limits.{capacity};
 ghost use Rattle.queue.specs.Waiting.{waiter};
-ghost use Rattle.input.specs.Limits.{mostTasks, mostResources, long};
+ghost use Rattle.input.specs.Limits.{mostTasks, mostResources};
 ghost use Rattle.protocol.specs.Words.{noTask};
-ghost use Rattle.protocol.specs.Ranks.{own, leastOf, modeFor, longHeld};
-ghost use Rattle.views.specs.Bounds.{latest, isBounded, noJobs, jobsWithin, rankAt, jobWith};
+ghost use Rattle.protocol.specs.Ranks.{leastOf, modeFor};
+ghost use Rattle.views.specs.Bounds.{rankBy, rankAt, raisedBy, rankWith, modeIn, jobsIn};
 
 // No deadline of a sound state is past this.
 const LATEST: u64 = 1099511627776;
 
-fn are_deadlines_bounded(state: State) -> bool
-    ensures { λ r. ⌜ r ≡ allBelow mostTasks (λ t. leb (getD (state .tasks) t noTask .deadline) latest) ⌝ }
+// A task's own rank: earlier deadline, then lower number; 0 of a deadline past the latest.
+pub fn own_rank(deadline: u64, t: u8) -> u64
+    ensures { λ r. ⌜ r ≡ rankBy deadline t ⌝ }
 {
-    let mut ok = true;
-    for t in 0..SetUp::TASKS {
-        let task = state.tasks[t];
-        ok = ok & (task.deadline <= LATEST);
+    if deadline <= LATEST {
+        deadline * 256 + (t as u64)
+    } else {
+        0
     }
-    ok
 }
 
-fn is_bounded(state: State) -> bool
-    ensures { λ r. ⌜ r ≡ isBounded state ⌝ }
-{
-    let setup = state.setup;
-    (setup.resources <= SetUp::RESOURCES) & are_deadlines_bounded(state)
-}
-
-// A task's own rank: earlier deadline, then lower number.
-fn own_rank(deadline: u64, t: usize) -> u64
-    requires { ⌜ (deadline ≤ latest) × (t ≤ 255) ⌝ }
-    ensures { λ r. ⌜ r ≡ deadline * 256 + t ⌝ }
-{
-    deadline * 256 + (t as u64)
-}
-
-fn own_ranks(state: State) -> [u64; SetUp::TASKS]
-    requires { ⌜ isBounded state ≡ true ⌝ }
-    ensures { λ r. ⌜ r ≡ table (own state) mostTasks ⌝ }
+pub fn own_ranks(tasks: [Task; SetUp::TASKS]) -> [u64; SetUp::TASKS]
+    ensures { λ r. ⌜ r ≡ table (λ t. rankBy (getD tasks t noTask .deadline) t) mostTasks ⌝ }
 {
     let mut ranks = [0u64; SetUp::TASKS];
     for t in 0..SetUp::TASKS {
-        let task = state.tasks[t];
-        ranks[t] = own_rank(task.deadline, t);
+        let task = tasks[t];
+        ranks[t] = own_rank(task.deadline, t as u8);
     }
     ranks
 }
 
 // The own rank of task `t`; past the table, that of no task.
-fn rank_at(ranks: [u64; SetUp::TASKS], t: u8) -> u64
-    ensures { λ r. ⌜ r ≡ rankAt ranks t ⌝ }
+fn rank_at(own: &[u64; SetUp::TASKS], t: u8) -> u64
+    ensures { λ r. ⌜ r ≡ rankAt (now (own .entry)) t ⌝ }
 {
     let i = t as usize;
-    if i < SetUp::TASKS { ranks[i] } else { t as u64 }
+    if i < SetUp::TASKS { own[i] } else { t as u64 }
 }
 
 fn least(a: u64, b: u64) -> u64
@@ -90,113 +68,120 @@ fn read_places(len: usize) -> usize
 }
 
 // The least of `rank` and the ranks of those that wait.
-fn least_waiting(ranks: [u64; SetUp::TASKS], queue: Queue, rank: u64) -> u64
-    ensures { λ r. ⌜ r ≡ leastOf (λ i. rankAt ranks (waiter queue i)) (queue .len) rank ⌝ }
+fn least_waiting(own: &[u64; SetUp::TASKS], queue: Queue, rank: u64) -> u64
+    ensures { λ r. ⌜ r ≡ leastOf (λ i. rankAt (now (own .entry)) (waiter queue i)) (queue .len) rank ⌝ }
 {
     let mut best = rank;
     for i in 0..read_places(queue.len) {
-        best = least(rank_at(ranks, queue.waiter(i)), best);
+        best = least(rank_at(own, queue.waiter(i)), best);
     }
     best
 }
 
-// The holder of a group of kind `kind` holds `g`, where that is long.
-fn with_held(held: [u8; SetUp::TASKS], kind: u8, holder: u8, g: u8) -> [u8; SetUp::TASKS]
-    ensures { λ r. ⌜ r ≡ (if kind is long then set held holder g else held) ⌝ }
+// Every rank raised by those that wait in one queue; as they are where nobody waits.
+fn raised_by(own: [u64; SetUp::TASKS], queue: Queue) -> [u64; SetUp::TASKS]
+    ensures { λ r. ⌜ r ≡ table (raisedBy own queue) mostTasks ⌝ }
 {
-    let mut next = held;
-    let i = holder as usize;
-    if kind == SetUp::LONG {
-        if i < SetUp::TASKS {
-            next[i] = g;
+    let mut ranks = own;
+    if queue.len != 0 {
+        for t in 0..SetUp::TASKS {
+            let rank = own[t];
+            ranks[t] = least_waiting(&own, queue, rank);
         }
     }
-    next
+    ranks
 }
 
-// The long group that each task holds, or the number past the last resource; from the last resource to the first, so that
-// the lowest stays.
-fn held_of(state: State) -> [u8; SetUp::TASKS]
-    requires { ⌜ state .setup .resources ≤ mostResources ⌝ }
-    ensures { λ r. ⌜ r ≡ table (longHeld (state .setup) state) mostTasks ⌝ }
+// How many of the resources have a place.
+fn placed_count(resources: usize) -> usize
+    ensures { λ r. ⌜ r ≡ min resources mostResources ⌝ }
 {
-    let setup = state.setup;
-    let kinds = setup.kinds;
-    let resources = setup.resources;
-    let mut held = [resources as u8; SetUp::TASKS];
-    for n in 0..resources {
-        let g = resources - 1 - n;
-        let group = state.groups[g];
-        let next = with_held(held, kinds[g], group.holder, g as u8);
-        held = next;
+    if resources <= SetUp::RESOURCES {
+        resources
+    } else {
+        SetUp::RESOURCES
     }
-    held
+}
+
+// The effective ranks: who holds a long group is raised by those that wait there. From the last group to the first, so
+// that the lowest stays; who holds none is raised by the queue past the last group, where nobody waits in a sound state.
+pub fn ranks_of(
+    own: [u64; SetUp::TASKS],
+    kinds: [u8; SetUp::RESOURCES],
+    resources: usize,
+    groups: [Group; SetUp::RESOURCES],
+) -> [u64; SetUp::TASKS]
+    ensures { λ r. ⌜ r ≡ table (rankWith own kinds (min resources mostResources) groups) mostTasks ⌝ }
+{
+    let count = placed_count(resources);
+    let past = if count < SetUp::RESOURCES {
+        groups[count]
+    } else {
+        tables::no_group()
+    };
+    let unheld = past.queue;
+    let mut ranks = raised_by(own, unheld);
+    for n in 0..count {
+        let g = count - 1 - n;
+        let group = groups[g];
+        let holder = group.holder as usize;
+        if (kinds[g] == SetUp::LONG) & (holder < SetUp::TASKS) {
+            let queue = group.queue;
+            let rank = own[holder];
+            ranks[holder] = least_waiting(&own, queue, rank);
+        }
+    }
+    ranks
 }
 
 // `holds`: a short request is open.
-fn mode_for(standing: Standing, holds: bool) -> Mode
+fn mode_for(standing: Standing, holds: bool) -> u8
     ensures { λ r. ⌜ r ≡ modeFor standing holds ⌝ }
 {
     match standing {
-        Standing::Absent => Mode::Off,
+        Standing::Absent => Jobs::OFF,
         Standing::Active => if holds {
-            Mode::NonPreemptable
+            Jobs::NON_PREEMPTABLE
         } else {
-            Mode::Preemptable
+            Jobs::PREEMPTABLE
         },
         Standing::Waiting(lock) => match lock {
-            Lock::Short(_) => Mode::NonPreemptable,
-            Lock::Long(_) => Mode::Off,
+            Lock::Short(_) => Jobs::NON_PREEMPTABLE,
+            Lock::Long(_) => Jobs::OFF,
         },
     }
 }
 
-// The job of a task with its effective rank.
-fn job_with(kinds: [u8; SetUp::RESOURCES], task: Task, rank: u64) -> Job
-    ensures { λ r. ⌜ r ≡ jobWith kinds task rank ⌝ }
+pub fn mode_in(kinds: [u8; SetUp::RESOURCES], task: Task) -> u8
+    ensures { λ r. ⌜ r ≡ modeIn kinds task ⌝ }
 {
     let requests = task.requests;
     let standing = task.standing;
-    let holds = tables::has_kind(kinds, requests, task.depth, SetUp::SHORT);
-    Job {
-        rank,
-        mode: mode_for(standing, holds),
-    }
+    mode_for(standing, tables::has_kind(kinds, requests, task.depth, SetUp::SHORT))
 }
 
-fn no_jobs() -> Jobs
-    ensures { λ r. ⌜ r ≡ noJobs ⌝ }
+pub fn modes_of(kinds: [u8; SetUp::RESOURCES], tasks: [Task; SetUp::TASKS]) -> [u8; SetUp::TASKS]
+    ensures { λ r. ⌜ r ≡ table (λ t. modeIn kinds (getD tasks t noTask)) mostTasks ⌝ }
 {
-    Jobs {
-        of: [Job {
-            rank: 0,
-            mode: Mode::Off,
-        }; Jobs::LIMIT],
+    let mut modes = [Jobs::OFF; SetUp::TASKS];
+    for t in 0..SetUp::TASKS {
+        let task = tasks[t];
+        modes[t] = mode_in(kinds, task);
     }
+    modes
 }
 
-// What the scheduler is told of the jobs of a state; nothing of a state past its bounds.
-pub fn jobs_of(state: State) -> Jobs
-    ensures { λ r. ⌜ r ≡ jobsWithin state ⌝ }
+// What the scheduler is told of the jobs, by the kinds and the count of the resources, the tasks and the groups.
+pub fn jobs_of(
+    kinds: [u8; SetUp::RESOURCES],
+    resources: usize,
+    tasks: [Task; SetUp::TASKS],
+    groups: [Group; SetUp::RESOURCES],
+) -> Jobs
+    ensures { λ r. ⌜ r ≡ jobsIn kinds resources tasks groups ⌝ }
 {
-    let mut all = no_jobs();
-    if is_bounded(state) {
-        let setup = state.setup;
-        let kinds = setup.kinds;
-        let ranks = own_ranks(state);
-        let held = held_of(state);
-        for t in 0..SetUp::TASKS {
-            let g = held[t] as usize;
-            let rank = if g < SetUp::RESOURCES {
-                let group = state.groups[g];
-                let queue = group.queue;
-                least_waiting(ranks, queue, ranks[t])
-            } else {
-                ranks[t]
-            };
-            let task = state.tasks[t];
-            all.of[t] = job_with(kinds, task, rank);
-        }
-    }
-    all
+    let own = own_ranks(tasks);
+    let ranks = ranks_of(own, kinds, resources, groups);
+    let modes = modes_of(kinds, tasks);
+    Jobs { ranks, modes }
 }
