@@ -1,7 +1,6 @@
 // Each group's holder and queue.
 use crate::standings::asked_of;
 use crate::standings::stand_at;
-use crate::standings::stands_of;
 use input::SetUp;
 use protocol::State;
 use protocol::Task;
@@ -103,7 +102,7 @@ pub fn all_groups(state: State, named: [u8; SetUp::RESOURCES]) -> bool
     ensures { λ r. ⌜ r ≡ allBelow mostResources (groupSound (state .setup) state) ⌝ }
 {
     let tasks = state.tasks;
-    let stands = stands_of(tasks);
+    let stands = states::stands_of(tasks);
     let asked = asked_of(tasks);
     let mut ok = true;
     for g in 0..SetUp::RESOURCE_END {

@@ -20,18 +20,6 @@ pub fn stand_at(stands: [u8; SetUp::TASKS], t: u8) -> u8
     }
 }
 
-pub fn stands_of(tasks: [Task; SetUp::TASKS]) -> [u8; SetUp::TASKS]
-    ensures { λ r. ⌜ r ≡ table (λ t. standingNo (getD tasks t noTask .standing)) mostTasks ⌝ }
-{
-    let mut stands = [0u8; SetUp::TASKS];
-    for t in 0..SetUp::TASKS {
-        let task = tasks[t];
-        let standing = task.standing;
-        stands[t] = states::stand_of(standing);
-    }
-    stands
-}
-
 // What each task's job asked for, or nothing.
 pub fn asked_of(tasks: [Task; SetUp::TASKS]) -> [u8; SetUp::TASKS]
     ensures { λ r. ⌜ r ≡ table (λ t. askedOf (getD tasks t noTask .standing)) mostTasks ⌝ }

@@ -8,6 +8,7 @@ pub use beginning::empty;
 pub use standings::asked_of;
 pub use standings::situation_of;
 pub use standings::stand_of;
+pub use standings::stands_of;
 pub use telling::line_of;
 pub use telling::linked_to;
 pub use telling::running_on;

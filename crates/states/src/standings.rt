@@ -1,11 +1,15 @@
 // What a standing says, and the situation of a task.
+use input::SetUp;
 use processors::Processors;
 use protocol::Lock;
 use protocol::Situation;
 use protocol::Standing;
 use protocol::Task;
 ghost use mathlib.Core.Path.{_≡_};
-ghost use Rattle.protocol.specs.Words.{standingNo, askedOf};
+ghost use lib.ListN.{getD};
+ghost use Rattle.search.specs.Table.{table};
+ghost use Rattle.input.specs.Limits.{mostTasks};
+ghost use Rattle.protocol.specs.Words.{standingNo, askedOf, noTask};
 ghost use Rattle.protocol.specs.Situations.{situationOf};
 
 pub fn stand_of(standing: Standing) -> u8
@@ -19,6 +23,19 @@ pub fn stand_of(standing: Standing) -> u8
             Lock::Long(_) => Task::SUSPENDED,
         },
     }
+}
+
+// The numbers of the tasks' standings.
+pub fn stands_of(tasks: [Task; SetUp::TASKS]) -> [u8; SetUp::TASKS]
+    ensures { λ r. ⌜ r ≡ table (λ t. standingNo (getD tasks t noTask .standing)) mostTasks ⌝ }
+{
+    let mut stands = [0u8; SetUp::TASKS];
+    for t in 0..SetUp::TASKS {
+        let task = tasks[t];
+        let standing = task.standing;
+        stands[t] = stand_of(standing);
+    }
+    stands
 }
 
 // The resource that a waiting job asked for, or nothing.

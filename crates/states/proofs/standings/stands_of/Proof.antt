@@ -10,8 +10,8 @@ use Rattle.search.proofs.Tables.{table-none, table-turn, table-all}
 use Rattle.input.specs.Limits.{mostTasks}
 use Rattle.protocol.specs.Words.{standingNo, noTask}
 use Rattle.tables.proofs.Reading.{task-read}
-use Rattle.soundness.proofs.standings.stands_of.Statement.{statement}
-use Rattle.soundness.proofs.standings.stands_of.Tie as tie
+use Rattle.states.proofs.standings.stands_of.Statement.{statement}
+use Rattle.states.proofs.standings.stands_of.Tie as tie
 
 abbrev Inv-loop : tie.InvT-loop
 Inv-loop tasks stands₀ t₀ stands t = (t ≤ mostTasks) × (stands ≡ table (λ t. standingNo (getD tasks t noTask .standing)) t ++ drop t stands₀)
