@@ -2,22 +2,23 @@
 use crate::standings::asked_of;
 use crate::standings::stand_at;
 use input::SetUp;
+use protocol::Group;
 use protocol::State;
 use protocol::Task;
 use queue::Queue;
 ghost use mathlib.Core.Path.{_≡_};
 ghost use mathlib.Core.Bool.{true, _&&_};
-ghost use Prim.Native.Nat.{_≤_};
+ghost use Prim.Native.Nat.{ℕ, _≤_};
 ghost use lib.Dec.{leb};
 ghost use lib.ListN.{getD};
 ghost use Rattle.search.specs.Words.{_is_};
 ghost use Rattle.search.specs.Below.{allBelow, anyBelow};
-ghost use Rattle.search.specs.Table.{table};
 ghost use Rattle.queue.specs.Limits.{capacity};
 ghost use Rattle.queue.specs.Waiting.{waiter, placeOf};
 ghost use Rattle.input.specs.Limits.{mostTasks, mostResources};
 ghost use Rattle.setups.specs.Naming.{names};
-ghost use Rattle.protocol.specs.Words.{mostRequests, nobody, absent, spinning, standingNo, askedOf, noTask};
+ghost use Rattle.protocol.specs.Words.{mostRequests, nobody, absent, spinning, stand};
+ghost use Rattle.protocol.specs.Words.{task as taskRecord, group as groupRecord, asked as askedBy};
 ghost use Rattle.protocol.specs.Sound.{requestsSound, groupSound};
 
 // Some open request is in group `g`.
@@ -70,22 +71,22 @@ fn all_in_place(queue: Queue) -> bool
     ok
 }
 
+// Group `g` by its record, that of its holder, the groups' names, and how the tasks stand and what they asked for.
 fn group_holds(
-    state: State,
+    group: Group,
+    task: Task,
     named: [u8; SetUp::RESOURCES],
     stands: [u8; SetUp::TASKS],
     asked: [u8; SetUp::TASKS],
     g: u8,
 ) -> bool
-    requires { ⌜ (named ≡ names (state .setup)) × (stands ≡ table (λ t. standingNo (getD (state .tasks) t noTask .standing)) mostTasks) × (asked ≡ table (λ t. askedOf (getD (state .tasks) t noTask .standing)) mostTasks) × (allBelow mostTasks (requestsSound (state .setup) state) ≡ true) ⌝ }
-    ensures { λ r. ⌜ r ≡ groupSound (state .setup) state g ⌝ }
+    requires { ⌜ task .depth ≤ mostRequests ⌝ }
+    ensures { λ r. ⌜ ((s : State) → group ≡ groupRecord s g → task ≡ taskRecord s (group .holder)
+        → named ≡ names (s .setup) → ((t : ℕ) → getD stands t absent ≡ stand s t)
+        → ((t : ℕ) → getD asked t nobody ≡ askedBy s t) → r ≡ groupSound (s .setup) s g) ⌝ }
 {
-    let all = state.groups;
-    let tasks = state.tasks;
-    let group = tables::group_at(all, g as usize);
     let holder = group.holder;
     let queue = group.queue;
-    let task = tables::task_at(tasks, holder);
     let requests = task.requests;
     if queue.is_tidy() {
         let held = (holder == Task::NOTHING) | some_in(named, requests, task.depth, g);
@@ -105,8 +106,15 @@ pub fn all_groups(state: State, named: [u8; SetUp::RESOURCES]) -> bool
     let stands = states::stands_of(tasks);
     let asked = asked_of(tasks);
     let mut ok = true;
-    for g in 0..SetUp::RESOURCE_END {
-        ok = ok & group_holds(state, named, stands, asked, g);
+    for g in 0..SetUp::RESOURCES {
+        let group = state.groups[g];
+        let h = group.holder as usize;
+        let task = if h < SetUp::TASKS {
+            tasks[h]
+        } else {
+            tables::no_task()
+        };
+        ok = ok & group_holds(group, task, named, stands, asked, g as u8);
     }
     ok
 }

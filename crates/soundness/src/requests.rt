@@ -5,15 +5,16 @@ use protocol::Task;
 use queue::Queue;
 ghost use mathlib.Core.Path.{_≡_};
 ghost use mathlib.Core.Bool.{_&&_};
-ghost use Prim.Native.Nat.{_≤_};
-ghost use lib.Dec.{ltb};
+ghost use Prim.Native.Nat.{ℕ, _≤_};
+ghost use lib.Dec.{leb, ltb};
 ghost use lib.ListN.{getD};
 ghost use Rattle.search.specs.Words.{_is_, _implies_};
 ghost use Rattle.search.specs.Below.{allBelow};
 ghost use Rattle.search.specs.Table.{table};
 ghost use Rattle.input.specs.Limits.{mostTasks, mostResources};
-ghost use Rattle.setups.specs.Naming.{names};
-ghost use Rattle.protocol.specs.Words.{mostRequests, nobody, noGroup};
+ghost use Rattle.setups.specs.Naming.{names, groupOf};
+ghost use Rattle.protocol.specs.Words.{mostRequests, nobody, spinning, noGroup, group, holder};
+ghost use Rattle.protocol.specs.Words.{task as taskRecord, stand as standOf, asked as askedBy};
 ghost use Rattle.protocol.specs.Sound.{requestsSound, waitingSound};
 ghost use Rattle.soundness.specs.Opens.{isOnce, isLong, isTogether};
 
@@ -129,25 +130,24 @@ fn all_together(
     ok
 }
 
-// `groups` are the names of the resources' groups, `holders` who holds each.
+// Task `t` by its record, the kinds and the number of the resources, the names of their groups and who holds each.
 fn requests_hold(
-    state: State,
+    task: Task,
+    kinds: [u8; SetUp::RESOURCES],
+    resources: usize,
     groups: [u8; SetUp::RESOURCES],
     holders: [u8; SetUp::RESOURCES],
     t: u8,
 ) -> bool
-    requires { ⌜ (groups ≡ names (state .setup)) × (holders ≡ table (λ g. getD (state .groups) g noGroup .holder) mostResources) ⌝ }
-    ensures { λ r. ⌜ r ≡ requestsSound (state .setup) state t ⌝ }
+    ensures { λ r. ⌜ ((s : State) → task ≡ taskRecord s t → kinds ≡ s .setup .kinds → resources ≡ s .setup .resources
+        → groups ≡ names (s .setup) → ((g : ℕ) → getD holders g nobody ≡ holder s g)
+        → r ≡ requestsSound (s .setup) s t) ⌝ }
 {
-    let setup = state.setup;
-    let kinds = setup.kinds;
-    let tasks = state.tasks;
-    let task = tables::task_at(tasks, t);
     let standing = task.standing;
     let requests = task.requests;
     let depth = task.depth;
     if depth <= Task::REQUESTS {
-        let held = all_held(holders, groups, requests, depth, setup.resources, t);
+        let held = all_held(holders, groups, requests, depth, resources, t);
         let once = all_once(requests, depth);
         let ordered = all_longs_first(kinds, requests, depth);
         let together = all_together(kinds, groups, requests, depth);
@@ -169,34 +169,35 @@ pub fn all_requests(
     requires { ⌜ (groups ≡ names (state .setup)) × (holders ≡ table (λ g. getD (state .groups) g noGroup .holder) mostResources) ⌝ }
     ensures { λ r. ⌜ r ≡ allBelow mostTasks (requestsSound (state .setup) state) ⌝ }
 {
+    let setup = state.setup;
+    let kinds = setup.kinds;
     let mut ok = true;
-    for t in 0..SetUp::TASK_END {
-        ok = ok & requests_hold(state, groups, holders, t);
+    for t in 0..SetUp::TASKS {
+        let task = state.tasks[t];
+        ok = ok & requests_hold(task, kinds, setup.resources, groups, holders, t as u8);
     }
     ok
 }
 
-fn waiting_holds(state: State, groups: [u8; SetUp::RESOURCES], t: u8) -> bool
-    requires { ⌜ groups ≡ names (state .setup) ⌝ }
-    ensures { λ r. ⌜ r ≡ waitingSound (state .setup) state t ⌝ }
+// Task `t`, where it waits, by its record, how it stands, what it asked for, the queue there, and the kinds and the number
+// of the resources.
+fn waiting_holds(
+    task: Task,
+    stand: u8,
+    asked: u8,
+    queue: Queue,
+    kinds: [u8; SetUp::RESOURCES],
+    resources: usize,
+    t: u8,
+) -> bool
+    ensures { λ r. ⌜ ((s : State) → task ≡ taskRecord s t → stand ≡ standOf s t → asked ≡ askedBy s t
+        → queue ≡ group s (groupOf (s .setup) asked) .queue → kinds ≡ s .setup .kinds → resources ≡ s .setup .resources
+        → (leb spinning stand implies r) ≡ waitingSound (s .setup) s t) ⌝ }
 {
-    let setup = state.setup;
-    let kinds = setup.kinds;
-    let tasks = state.tasks;
-    let task = tables::task_at(tasks, t);
-    let standing = task.standing;
-    let stand = states::stand_of(standing);
-    if stand < Task::SPINNING {
-        return true;
-    }
-    let asked = states::asked_of(standing);
     let kind = tables::kind_at(kinds, asked);
-    let all = state.groups;
-    let group = tables::group_at(all, tables::number_at(groups, asked) as usize);
-    let queue = group.queue;
     let requests = task.requests;
     let depth = task.depth;
-    let right = ((asked as usize) < setup.resources)
+    let right = ((asked as usize) < resources)
         & ((stand as usize) == (Task::SPINNING as usize) + (kind as usize));
     let stands = queue.place_of(t) < Queue::CAPACITY;
     let apart = !tables::has_kind(kinds, requests, depth, kind);
@@ -207,9 +208,24 @@ pub fn all_waiting(state: State, groups: [u8; SetUp::RESOURCES]) -> bool
     requires { ⌜ groups ≡ names (state .setup) ⌝ }
     ensures { λ r. ⌜ r ≡ allBelow mostTasks (waitingSound (state .setup) state) ⌝ }
 {
+    let setup = state.setup;
+    let kinds = setup.kinds;
     let mut ok = true;
-    for t in 0..SetUp::TASK_END {
-        ok = ok & waiting_holds(state, groups, t);
+    for t in 0..SetUp::TASKS {
+        let task = state.tasks[t];
+        let standing = task.standing;
+        let stand = states::stand_of(standing);
+        let asked = states::asked_of(standing);
+        let g = tables::number_at(groups, asked) as usize;
+        let group = if g < SetUp::RESOURCES {
+            state.groups[g]
+        } else {
+            tables::no_group()
+        };
+        let queue = group.queue;
+        ok = ok
+            & (!(Task::SPINNING <= stand)
+                | waiting_holds(task, stand, asked, queue, kinds, setup.resources, t as u8));
     }
     ok
 }

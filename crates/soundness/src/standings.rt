@@ -6,7 +6,7 @@ ghost use mathlib.Core.Path.{_≡_};
 ghost use lib.ListN.{getD};
 ghost use Rattle.search.specs.Table.{table};
 ghost use Rattle.input.specs.Limits.{mostTasks};
-ghost use Rattle.protocol.specs.Words.{absent, standingNo, askedOf, noTask};
+ghost use Rattle.protocol.specs.Words.{absent, askedOf, noTask};
 
 // The number of the standing of task `t`; past the table there is no job.
 pub fn stand_at(stands: [u8; SetUp::TASKS], t: u8) -> u8

@@ -1,24 +1,32 @@
 -- The loop's invariant: `ok` says that the clause holds of the tasks passed. Assumes nothing.
 use Prim.Native.Nat.{_≤_, _-_}
-use mathlib.Core.Path.{_≡_}
+use mathlib.Core.Path.{_≡_, refl}
 use native.Mathlib.Omega.{arith}
 use native.Mathlib.Numerals.{add-one}
+use lib.ListN.{length, length-map}
 use borrow.Author.Needs.{needs}
 use Rattle.search.specs.Below.{allBelow}
 use Rattle.input.specs.Limits.{mostTasks}
 use Rattle.protocol.specs.Sound.{emptySound}
+use Rattle.tables.proofs.Reading.{task-read}
 use Rattle.soundness.proofs.tasks.all_empty.Statement.{statement}
 use Rattle.soundness.proofs.tasks.all_empty.Tie as tie
 
 abbrev Inv-loop : tie.InvT-loop
-Inv-loop state ok₀ t₀ ok t = (t ≤ mostTasks) × (ok ≡ allBelow t (emptySound (state .setup) state))
+Inv-loop state setup ok₀ t₀ ok t = (t ≤ mostTasks) × (ok ≡ allBelow t (emptySound (state .setup) state))
 
 abbrev μ-loop : tie.MeasureT-loop
-μ-loop state ok₀ t₀ ok t = mostTasks - t
+μ-loop state setup ok₀ t₀ ok t = mostTasks - t
 
 loop-holds : tie.Need-loop-holds Inv-loop μ-loop
 unfolding allBelow
 loop-holds c = search needs
+
+mul-task : tie.Need-mul-task Inv-loop μ-loop
+mul-task c = search needs
+
+element-copy-out-task : tie.Need-element-copy-out-task Inv-loop μ-loop
+element-copy-out-task c = search needs
 
 empty-holds-requires : tie.Need-empty-holds-requires Inv-loop μ-loop
 empty-holds-requires c κs = search needs
@@ -31,13 +39,29 @@ loop-less c = search needs
 
 loop-again : tie.Need-loop-again Inv-loop μ-loop
 unfolding allBelow
-loop-again c = (search needs, rw (add-one, c .before .before .loop .inv .1, c .empty-holds .ensures))
+loop-again c =
+    let start = c .before .before .before .before .before .before in
+    let s = start .args .t1 in
+    let a = c .before .before .before .before .loop in
+    let tasked : length (s .tasks) ≡ mostTasks = simp length-map at (start .good .0 .1 .1 .1 .1 .0 .1 .0 .1) in
+    (search needs, rw (add-one, a .inv .1, c .empty-holds .ensures s (a .t) (task-read (s .tasks) (a .t) (omega arith)) refl))
 
 returns : tie.Need-returns Inv-loop μ-loop
-returns c = let e : c .before .loop .t ≡ mostTasks = omega arith in
+returns c =
+    let e : c .before .loop .t ≡ mostTasks = omega arith in
     rw e at (c .before .loop .inv .1)
 
 pub all-empty-spec : {M : Type 1} → statement M
 all-empty-spec =
     tie.close
-    (tie.spec Inv-loop μ-loop loop-holds empty-holds-requires add-t loop-less loop-again returns)
+    (tie.spec
+    Inv-loop
+    μ-loop
+    loop-holds
+    mul-task
+    element-copy-out-task
+    empty-holds-requires
+    add-t
+    loop-less
+    loop-again
+    returns)

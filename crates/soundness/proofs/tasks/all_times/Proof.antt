@@ -1,24 +1,38 @@
 -- The loop's invariant: `ok` says that the clause holds of the tasks passed. Assumes nothing.
 use Prim.Native.Nat.{_≤_, _-_}
-use mathlib.Core.Path.{_≡_}
+use mathlib.Core.Path.{_≡_, refl}
 use native.Mathlib.Omega.{arith}
 use native.Mathlib.Numerals.{add-one}
+use lib.ListN.{length, length-map}
 use borrow.Author.Needs.{needs}
 use Rattle.search.specs.Below.{allBelow}
 use Rattle.input.specs.Limits.{mostTasks}
 use Rattle.protocol.specs.Sound.{timesSound}
+use Rattle.tables.proofs.Reading.{task-read}
 use Rattle.soundness.proofs.tasks.all_times.Statement.{statement}
 use Rattle.soundness.proofs.tasks.all_times.Tie as tie
 
 abbrev Inv-loop : tie.InvT-loop
-Inv-loop state ok₀ t₀ ok t = (t ≤ mostTasks) × (ok ≡ allBelow t (timesSound (state .setup) state))
+Inv-loop state setup ok₀ t₀ ok t = (t ≤ mostTasks) × (ok ≡ allBelow t (timesSound (state .setup) state))
 
 abbrev μ-loop : tie.MeasureT-loop
-μ-loop state ok₀ t₀ ok t = mostTasks - t
+μ-loop state setup ok₀ t₀ ok t = mostTasks - t
 
 loop-holds : tie.Need-loop-holds Inv-loop μ-loop
 unfolding allBelow
 loop-holds c = search needs
+
+mul-task : tie.Need-mul-task Inv-loop μ-loop
+mul-task c = search needs
+
+element-copy-out-task : tie.Need-element-copy-out-task Inv-loop μ-loop
+element-copy-out-task c = search needs
+
+mul-times-hold : tie.Need-mul-times-hold Inv-loop μ-loop
+mul-times-hold c = search needs
+
+element-copy-out-times-hold : tie.Need-element-copy-out-times-hold Inv-loop μ-loop
+element-copy-out-times-hold c = search needs
 
 times-hold-requires : tie.Need-times-hold-requires Inv-loop μ-loop
 times-hold-requires c κs = search needs
@@ -31,13 +45,31 @@ loop-less c = search needs
 
 loop-again : tie.Need-loop-again Inv-loop μ-loop
 unfolding allBelow
-loop-again c = (search needs, rw (add-one, c .before .before .loop .inv .1, c .times-hold .ensures))
+loop-again c =
+    let start = c .before .before .before .before .before .before in
+    let s = start .args .t1 in
+    let a = c .before .before .before .before .loop in
+    let tasked : length (s .tasks) ≡ mostTasks = simp length-map at (start .good .0 .1 .1 .1 .1 .0 .1 .0 .1) in
+    (search needs, rw (add-one, a .inv .1, c .times-hold .ensures s (a .t) (task-read (s .tasks) (a .t) (omega arith)) refl refl refl))
 
 returns : tie.Need-returns Inv-loop μ-loop
-returns c = let e : c .before .loop .t ≡ mostTasks = omega arith in
+returns c =
+    let e : c .before .loop .t ≡ mostTasks = omega arith in
     rw e at (c .before .loop .inv .1)
 
 pub all-times-spec : {M : Type 1} → statement M
 all-times-spec =
     tie.close
-    (tie.spec Inv-loop μ-loop loop-holds times-hold-requires add-t loop-less loop-again returns)
+    (tie.spec
+    Inv-loop
+    μ-loop
+    loop-holds
+    mul-task
+    element-copy-out-task
+    mul-times-hold
+    element-copy-out-times-hold
+    times-hold-requires
+    add-t
+    loop-less
+    loop-again
+    returns)

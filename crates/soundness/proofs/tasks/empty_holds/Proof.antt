@@ -4,9 +4,6 @@ use Rattle.protocol.specs.Sound.{emptySound}
 use Rattle.soundness.proofs.tasks.empty_holds.Statement.{statement}
 use Rattle.soundness.proofs.tasks.empty_holds.Tie as tie
 
-task-at-requires : tie.Need-task-at-requires
-task-at-requires c κs = search needs
-
 stand-of-requires : tie.Need-stand-of-requires
 stand-of-requires c κs = search needs
 
@@ -18,9 +15,8 @@ requests-end-requires c κs = search needs
 
 returns : tie.Need-returns
 unfolding emptySound stand depth request
-returns c = rw (c .before .requests-end .ensures, c .before .before .sum-of .ensures, c .before .before .before .before .before .stand-of .ensures, c .before .before .before .before .before .before .before .before .task-at .ensures)
+returns c = λ s t recorded beyond. rw (c .requests-end .ensures, c .before .sum-of .ensures, c .before .before .before .before .stand-of .ensures, recorded, beyond)
 
 pub empty-holds-spec : {M : Type 1} → statement M
 empty-holds-spec =
-    tie.close
-    (tie.spec task-at-requires stand-of-requires sum-of-requires requests-end-requires returns)
+    tie.close (tie.spec stand-of-requires sum-of-requires requests-end-requires returns)
