@@ -1,43 +1,52 @@
 -- An accepted event on what is kept of a state: each step of the code keeps the state of the rules. Assumes nothing.
-use Prim.Native.Nat.{ℕ, _+_, _<_, _≤_}
+use Prim.Native.Nat.{ℕ, _+_, _<_, _≤_, min}
 use mathlib.Core.Path.{_≡_, refl, sym, ap, _∙_, subst}
 use mathlib.Core.Bool.{Bool, true, false, _||_}
 use mathlib.Core.List.{List}
+use mathlib.Core.Logic.{_⊎_, ⊎-elim}
 use native.Mathlib.Omega.{arith}
-use native.Mathlib.Decide.{ℕ-discrete}
+use native.Mathlib.Decide.{ℕ-discrete, decLt}
 use lib.ListN.{length, getD, set, length-set}
 use lib.Seq.{getD-set-same, getD-set-other}
 use borrow.Author.Tests.{eq-eqb, ne-eqb}
 use Rattle.search.specs.Words.{if_then_else_, _is_}
+use Rattle.search.specs.Table.{table}
 use Rattle.search.proofs.Tables.{table-length}
+use Rattle.processors.specs.Limits.{off}
+use Rattle.processors.specs.Words.{told, firstModes}
 use Rattle.processors.specs.declared.Processors.{Processors}
+use Rattle.processors.proofs.Told.{first-all}
 use Rattle.input.specs.Limits.{mostTasks, mostResources, short}
 use Rattle.input.specs.Words.{period}
-use Rattle.input.specs.Kinds.{arrival, finish, request as asking, completion}
+use Rattle.input.specs.Kinds.{arrival, finish, request as asking, completion, passing}
 use Rattle.input.specs.declared.SetUp.{SetUp}
 use Rattle.input.specs.declared.Event.{Event}
 use Rattle.setups.specs.Naming.{names, groupOf}
 use Rattle.protocol.specs.Words.{nobody, absent, mostRequests, lastClock, noTask, noGroup, standingNo, stand, sum, task, group, deadline, depth}
-use Rattle.protocol.specs.Ranks.{jobs}
+use Rattle.protocol.specs.Ranks.{modeFor, jobs}
+use Rattle.protocol.specs.declared.Lock.the-variants.{Short, Long}
+use Rattle.protocol.specs.declared.Standing.{Standing}
 use Rattle.protocol.specs.Refusals.{stepOf, judge}
 use Rattle.queue.specs.Waiting.{waiter, appended}
 use Rattle.protocol.specs.Locks.{standingAs, opening, closing, arriving, departing, lockOf}
-use Rattle.protocol.specs.declared.Standing.the-variants.{Waiting}
+use Rattle.protocol.specs.declared.Standing.the-variants.{Absent, Active, Waiting}
 use Rattle.protocol.specs.Events.{withProcessors, charged, cold, act, stepBy, step}
 use Rattle.protocol.specs.declared.Task.{Task}
 use Rattle.protocol.specs.declared.Group.{Group}
 use Rattle.protocol.specs.declared.State.{State}
 use Rattle.protocol.proofs.Statements.{Sound}
-use Rattle.protocol.proofs.Step.{grouped, steady-of}
+use Rattle.protocol.proofs.Step.{grouped, event-kinds, row11}
 use Rattle.locking.specs.Acting.{CanAct}
-use Rattle.views.specs.Bounds.{rankBy, modeIn}
+use Rattle.views.specs.Bounds.{latest, isBounded, rankBy, modeIn, rankWith}
+use Rattle.views.proofs.Bounding.{deadline-bounded}
 use Rattle.locking.specs.Edits.{arrive, leave, stay, soften, giveWay, openIn, keeping, requesting, completing, editing, handing, put, stored, movedWith, movedBy, handed, editOf, acted}
 use Rattle.locking.specs.Totals.{allTotals, rowOf, totalsAs, counted, chargedTo}
 use Rattle.locking.specs.Keeping.{Keeps}
 use Rattle.locking.specs.declared.acting.Edit.{Edit}
 use Rattle.locking.proofs.Accepted.{can-act, inside, room, charges}
-use Rattle.locking.proofs.Acted.{acted-act}
-use Rattle.locking.proofs.Keeping.{keeps-task, keeps-charge, keeps-store, keeps-move}
+use Rattle.locking.proofs.Acted.{acted-act, edit-needs, next-in, next-room, edited-deadline, handed-deadline}
+use Rattle.locking.proofs.Bounded.{put-bounded}
+use Rattle.locking.proofs.Keeping.{charged-by, keeps-task, keeps-charge, keeps-store, keeps-move, keeps-told}
 
 -- ---- an edit takes the totals of a record along
 abbrev pub asEdit : List ℕ → Edit → Edit
@@ -99,6 +108,27 @@ handed-as : (w : List ℕ) (x : Task) (y : Group) (turn next : ℕ) → handing 
 unfolding handing
 handed-as w x y turn next = refl
 
+-- time alone moves nobody, and who is handed a group leaves nothing
+passes-still : (kinds : List ℕ) (span clock : ℕ) (x : Task) (y : Group) (e : Event) → e .kind ≡ passing → editing kinds span clock x y e .turn ≡ stay
+unfolding editing
+passes-still kinds span clock x y e k =
+    rw (ne-eqb (e .kind) arrival (λ q. omega (arith, k, q)), ne-eqb (e .kind) finish (λ q. omega (arith, k, q)), ne-eqb (e .kind) asking (λ q. omega (arith, k, q)), ne-eqb (e .kind) completion (λ q. omega (arith, k, q)))
+
+pub heir-stays : (x : Task) (y : Group) (turn next : ℕ) → (handing x y turn next .turn ≡ leave) ⊎ (handing x y turn next .turn ≡ giveWay) → ⊥
+unfolding handing
+heir-stays x y turn next = go (turn is giveWay)
+  where
+    go : (b : Bool) → ((if b then arrive else stay) ≡ leave) ⊎ ((if b then arrive else stay) ≡ giveWay) → ⊥
+    go true = ⊎-elim (λ q. omega (arith, q)) (λ q. omega (arith, q))
+    go false = ⊎-elim (λ q. omega (arith, q)) (λ q. omega (arith, q))
+
+-- without a job no mode is runnable
+mode-off : (x : Standing) (b : Bool) → standingNo x ≡ absent → modeFor x b ≡ off
+mode-off Absent b h = refl
+mode-off Active b h = absurd (omega (arith, h))
+mode-off (Waiting (Short r)) b h = absurd (omega (arith, h))
+mode-off (Waiting (Long r)) b h = absurd (omega (arith, h))
+
 -- ---- an accepted event, from what is kept of a sound state; g is the place of its group
 module _ (s : State) (e : Event) (Q : Sound s) (ok : judge s e ≡ 0) (short-periods : (t : ℕ) → period (s .setup) t < 65536)
     (clock : ℕ) (ts : List Task) (gs : List Group) (p : Processors) (totals own modes stands : List ℕ) (K : Keeps s clock ts gs p totals own modes stands)
@@ -145,6 +175,12 @@ module _ (s : State) (e : Event) (Q : Sound s) (ok : judge s e ≡ 0) (short-per
   unfolding charged
   groups-long = Q .steady .sized .groups
 
+  t-read : task s₁ t ≡ totalsAs (rowOf w t) (getD ts t noTask)
+  t-read = keeps-task s₁ (clock + n) ts gs p w own modes stands keeps₁ t t-in
+
+  pub edit-may : (e .kind ≡ asking → getD ts t noTask .depth < mostRequests) × (e .kind ≡ completion → (0 < getD ts t noTask .depth) × (getD ts t noTask .depth ≤ mostRequests))
+  edit-may = subst (λ (x : Task). (e .kind ≡ asking → x .depth < mostRequests) × (e .kind ≡ completion → (0 < x .depth) × (x .depth ≤ mostRequests))) t-read (edit-needs s₁ e (names (s .setup)) can)
+
   -- ---- the first edit
   abbrev d : Edit
   d = editing kinds (period (s .setup) t) (clock + n) (getD ts t noTask) (getD gs g noGroup) e
@@ -154,7 +190,7 @@ module _ (s : State) (e : Event) (Q : Sound s) (ok : judge s e ≡ 0) (short-per
   first-edit =
       let span = period (s .setup) t in
       ap (λ (k : ℕ). editing kinds span k (task s₁ t) (group s₁ g) e) (sym (keeps₁ .timed))
-      ∙ ap (λ (x : Task). editing kinds span (clock + n) x (group s₁ g) e) (keeps-task s₁ (clock + n) ts gs p w own modes stands keeps₁ t t-in)
+      ∙ ap (λ (x : Task). editing kinds span (clock + n) x (group s₁ g) e) t-read
       ∙ ap (λ (l : List Group). editing kinds span (clock + n) (totalsAs (rowOf w t) (getD ts t noTask)) (getD l g noGroup) e) (sym (keeps₁ .grouped))
       ∙ edited-as (rowOf w t) kinds span (clock + n) (getD ts t noTask) (getD gs g noGroup) e
 
@@ -180,6 +216,35 @@ module _ (s : State) (e : Event) (Q : Sound s) (ok : judge s e ≡ 0) (short-per
   unfolding charged
   keeps₂ = subst (λ (z : Edit). Keeps (stored t g z s₁) (clock + n) ts₂ gs₂ p w own₂ modes₂ stands₂) (sym first-edit)
       (keeps-store s₁ (clock + n) ts gs p w own modes stands keeps₁ t g (d .task) (d .group) t-in tasks-long)
+
+  -- within its bounds, and without a job past the count of tasks
+  bounded₂ : isBounded s₂ ≡ true
+  unfolding charged
+  bounded₂ = put-bounded s₁ (can .bounded) tasks-long t g _ _
+      (edited-deadline kinds (period (s .setup) t) (s₁ .clock) (task s₁ t) (group s₁ g) e latest (deadline-bounded s₁ (can .bounded) t t-in) (omega (arith, room s e Q ok, short-periods t)))
+
+  pub told₂ : told (table (rankWith own₂ kinds (min (s .setup .resources) mostResources) gs₂) mostTasks) modes₂ ≡ jobs (s .setup) s₂
+  unfolding charged
+  told₂ = keeps-told s₂ (clock + n) ts₂ gs₂ p w own₂ modes₂ stands₂ keeps₂ bounded₂
+
+  moving : (d .turn ≡ leave) ⊎ (d .turn ≡ giveWay) → t < s .setup .tasks
+  moving h = elim (decLt (e .kind) passing) [
+    | yes l ↦ row11 s e Q ok (event-kinds s e Q ok .0, omega arith)
+    | no l ↦
+        let k : e .kind ≡ passing = omega (arith, event-kinds s e Q ok) in
+        let z : d .turn ≡ stay = passes-still kinds (period (s .setup) t) (clock + n) (getD ts t noTask) (getD gs g noGroup) e k in
+        absurd (⊎-elim (λ q. omega (arith, q, z)) (λ q. omega (arith, q, z)) h)
+  ]
+
+  off₂ : t < s .setup .tasks → (v : ℕ) → s .setup .tasks ≤ v → v < mostTasks → modeIn kinds (task s₂ v) ≡ off
+  unfolding stand
+  off₂ l v a b =
+      let same : task s₂ v ≡ task s₁ v = getD-set-other (s₁ .tasks) t v _ noTask (λ q. omega (arith, q)) in
+      mode-off (task s₂ v .standing) _ (ap (λ (x : Task). standingNo (x .standing)) same ∙ charged-by (λ (x : Task). standingNo (x .standing)) (λ i m x. refl) n s v b ∙ quiet v a b)
+
+  pub quiet₂ : (d .turn ≡ leave) ⊎ (d .turn ≡ giveWay) → firstModes (s .setup .tasks) modes₂ ≡ modes₂
+  unfolding charged
+  quiet₂ h = subst (λ (l : List ℕ). firstModes (s .setup .tasks) l ≡ l) (sym (keeps₂ .ready)) (first-all (s .setup .tasks) (λ v. modeIn kinds (task s₂ v)) (off₂ (moving h)))
 
   -- ---- the first move
   abbrev s₃ : State
@@ -213,15 +278,24 @@ module _ (s : State) (e : Event) (Q : Sound s) (ok : judge s e ≡ 0) (short-per
       u-is : editOf e g s₁ .next ≡ u
       u-is = ap (λ (z : Edit). z .next) first-edit
 
-      u-in : u < mostTasks
-      u-in = ?
+      some₁ : editOf e g s₁ .next ≡ nobody → ⊥
+      some₁ q = some (sym u-is ∙ q)
+
+      pub u-in : u < mostTasks
+      u-in = subst (λ (v : ℕ). v < mostTasks) u-is (next-in s₁ e (names (s .setup)) can g g-is some₁ .0)
+
+      u-read : task s₃ u ≡ totalsAs (rowOf w u) (getD ts₂ u noTask)
+      u-read = keeps-task s₃ (clock + n) ts₂ gs₂ p₃ w own₂ modes₂ stands₂ keeps₃ u u-in
+
+      pub heir-may : getD ts₂ u noTask .depth < mostRequests
+      heir-may = subst (λ (x : Task). x .depth < mostRequests) (ap (task s₃) u-is ∙ u-read) (next-room s₁ e (names (s .setup)) can g g-is some₁)
 
       abbrev d₄ : Edit
       d₄ = handing (getD ts₂ u noTask) (getD gs₂ g noGroup) (d .turn) u
 
       next-edit : handing (task s₃ u) (group s₃ g) (d .turn) u ≡ asEdit (rowOf w u) d₄
       next-edit =
-          ap (λ (x : Task). handing x (group s₃ g) (d .turn) u) (keeps-task s₃ (clock + n) ts₂ gs₂ p₃ w own₂ modes₂ stands₂ keeps₃ u u-in)
+          ap (λ (x : Task). handing x (group s₃ g) (d .turn) u) u-read
           ∙ ap (λ (l : List Group). handing (totalsAs (rowOf w u) (getD ts₂ u noTask)) (getD l g noGroup) (d .turn) u) (sym (keeps₃ .grouped))
           ∙ handed-as (rowOf w u) (getD ts₂ u noTask) (getD gs₂ g noGroup) (d .turn) u
 
@@ -252,6 +326,17 @@ module _ (s : State) (e : Event) (Q : Sound s) (ok : judge s e ≡ 0) (short-per
       keeps₄ = subst (λ (z : Edit). Keeps (stored u g z s₃) (clock + n) ts₄ gs₄ p₃ w own₄ modes₄ stands₄) (sym next-edit)
           (keeps-store s₃ (clock + n) ts₂ gs₂ p₃ w own₂ modes₂ stands₂ keeps₃ u g (d₄ .task) (d₄ .group) u-in tasks-long₃)
 
+      bounded₃ : isBounded s₃ ≡ true
+      unfolding isBounded movedBy
+      bounded₃ = bounded₂
+
+      bounded₄ : isBounded s₄ ≡ true
+      bounded₄ = put-bounded s₃ bounded₃ tasks-long₃ u g _ _ (omega (arith, handed-deadline (task s₃ u) (group s₃ g) (d .turn) u, deadline-bounded s₃ bounded₃ u u-in))
+
+      pub told₄ : told (table (rankWith own₄ kinds (min (s .setup .resources) mostResources) gs₄) mostTasks) modes₄ ≡ jobs (s .setup) s₄
+      unfolding charged movedBy
+      told₄ = keeps-told s₄ (clock + n) ts₄ gs₄ p₃ w own₄ modes₄ stands₄ keeps₄ bounded₄
+
       abbrev s₅ : State
       s₅ = movedBy (handing (task s₃ u) (group s₃ g) (d .turn) u .turn) u s₄
 
@@ -269,4 +354,4 @@ module _ (s : State) (e : Event) (Q : Sound s) (ok : judge s e ≡ 0) (short-per
         pub ends-handed : s₅ ≡ step s e .state
         unfolding acted handed
         ends-handed =
-            sym (rw (ne-eqb (editOf e g s₁ .next) nobody (λ q. some (sym u-is ∙ q)), u-is, ap (λ (z : Edit). z .turn) first-edit)) ∙ ends
+            sym (rw (ne-eqb (editOf e g s₁ .next) nobody some₁, u-is, ap (λ (z : Edit). z .turn) first-edit)) ∙ ends

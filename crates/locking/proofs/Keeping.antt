@@ -1,6 +1,6 @@
 -- What is kept while a part is played follows the state: at its start, when ticks are charged, when records are stored, and
 -- when the scheduler moves. Assumes nothing.
-use Prim.Native.Nat.{ℕ, _+_, _*_, _<_, _≤_}
+use Prim.Native.Nat.{ℕ, _+_, _<_, _≤_, min}
 use mathlib.Core.Path.{_≡_, refl, sym, ap, _∙_}
 use mathlib.Core.Bool.{Bool, true, false}
 use mathlib.Core.List.{List}
@@ -11,16 +11,19 @@ use lib.Seq.{getD-set-same, getD-set-other}
 use Rattle.search.specs.Words.{if_then_else_, _isn't_}
 use Rattle.search.specs.Table.{table}
 use Rattle.search.proofs.Tables.{table-length, table-at, table-of, table-same}
+use Rattle.processors.specs.Words.{told}
 use Rattle.processors.specs.declared.Processors.{Processors}
-use Rattle.input.specs.Limits.{mostTasks}
+use Rattle.input.specs.Limits.{mostTasks, mostResources}
 use Rattle.protocol.specs.Words.{absent, totalCount, noTask, standingNo, stand, task}
+use Rattle.protocol.specs.Ranks.{effective, jobs}
 use Rattle.protocol.specs.Situations.{situation, totalOf}
 use Rattle.protocol.specs.Events.{withProcessors, counting, charged}
 use Rattle.protocol.specs.declared.Task.{Task}
 use Rattle.protocol.specs.declared.Group.{Group}
 use Rattle.protocol.specs.declared.State.{State}
 use Rattle.protocol.proofs.Reflect.{Shaped}
-use Rattle.views.specs.Bounds.{rankBy, modeIn}
+use Rattle.views.specs.Bounds.{isBounded, rankBy, modeIn, rankWith}
+use Rattle.views.proofs.Telling.{ranks-ruled, modes-ruled}
 use Rattle.locking.specs.Edits.{put}
 use Rattle.locking.specs.Totals.{allTotals, rowOf, totalsAs, counted, totalsIn, chargedTo}
 use Rattle.locking.specs.Keeping.{byTask, Keeps}
@@ -44,7 +47,7 @@ by-task-set f l t x h g = table-of (λ u. f u (getD (set l t x) u noTask)) (set 
     ])
 
 -- ---- charging changes nothing of a record but its totals
-charged-by : (f : Task → ℕ) → ((i n : ℕ) (x : Task) → f (counting i n x) ≡ f x) → (n : ℕ) (s : State) (t : ℕ) → t < mostTasks → f (task (charged n s) t) ≡ f (task s t)
+pub charged-by : (f : Task → ℕ) → ((i n : ℕ) (x : Task) → f (counting i n x) ≡ f x) → (n : ℕ) (s : State) (t : ℕ) → t < mostTasks → f (task (charged n s) t) ≡ f (task s t)
 unfolding charged
 charged-by f keeps n s t l = ap f (table-at _ mostTasks t noTask l) ∙ go (stand s t isn't absent)
   where
@@ -122,3 +125,11 @@ module _ (s : State) (clock : ℕ) (ts : List Task) (gs : List Group) (p : Proce
     few = K .few;
     all = K .all;
   }
+
+  -- what the moves are told is the jobs of the state
+  pub keeps-told : isBounded s ≡ true → told (table (rankWith own (s .setup .kinds) (min (s .setup .resources) mostResources) gs) mostTasks) modes ≡ jobs (s .setup) s
+  unfolding jobs
+  keeps-told h =
+      ap (λ (l : List ℕ). told l modes)
+      (ap (λ (l : List Group). table (rankWith own (s .setup .kinds) (min (s .setup .resources) mostResources) l) mostTasks) (K .grouped) ∙ ranks-ruled s h own (K .ranked))
+      ∙ ap (told (table (effective (s .setup) s) mostTasks)) (K .ready ∙ modes-ruled s)

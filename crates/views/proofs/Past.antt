@@ -4,7 +4,7 @@ use native.Mathlib.Nat.{not-suc-le-zero}
 use native.Mathlib.Omega.{arith}
 use native.Mathlib.Decide.{ℕ-discrete, decLt}
 use mathlib.Core.Path.{_≡_, sym, ap, _∙_}
-use lib.ListN.{length, getD, length-take, List·getD-eq-default}
+use lib.ListN.{length, length-take, List·getD-eq-default}
 use Rattle.queue.specs.Limits.{capacity}
 use Rattle.queue.specs.Waiting.{waiting, waiter}
 use Rattle.queue.specs.declared.Queue.{Queue}

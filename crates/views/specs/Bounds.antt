@@ -1,5 +1,6 @@
--- Within which bounds the ranks of a state fit their type, and what is told of its jobs, from its parts. Every state that
--- the sound test has not refused by its set-up, clock and times is within them: `ViewIsRuled` of soundness/specs/Parts.
+-- Within which bounds the ranks of a state fit their type, and the view of jobs from the parts of a state. Every state
+-- that the sound test has not refused by its set-up, clock and times is within them: `ViewIsRuled` of
+-- soundness/specs/Parts.
 use Prim.Native.Nat.{ℕ, _+_, _*_, min}
 use mathlib.Core.Bool.{Bool, _&&_}
 use mathlib.Core.List.{List}
@@ -28,36 +29,36 @@ latest = 1099511627776
 unfoldable pub isBounded : State → Bool
 isBounded s = leb (s .setup .resources) mostResources && allBelow mostTasks (λ t. leb (task s t .deadline) latest)
 
--- ---- ranks
+-- ---- the view of jobs from the parts of a state
 -- a task's own rank by its deadline; 0 where that is past the latest, which no sound state has
 abbrev pub rankBy : ℕ → ℕ → ℕ
-rankBy d t = if leb d latest then d * 256 + t else 0
+rankBy deadline t = if leb deadline latest then deadline * 256 + t else 0
 
 -- a task's own rank in a table of them; past the table, that of no task
 abbrev pub rankAt : List ℕ → ℕ → ℕ
 rankAt own t = if ltb t mostTasks then getD own t 0 else t
 
--- the least of the own rank of t and those of the tasks that wait in a queue
-abbrev pub raisedBy : List ℕ → Queue → ℕ → ℕ
-raisedBy own q t = leastOf (λ i. rankAt own (waiter q i)) (q .len) (getD own t 0)
+-- the least of the own rank of t and those of the tasks that wait in q
+abbrev pub rankBefore : List ℕ → Queue → ℕ → ℕ
+rankBefore own q t = leastOf (λ i. rankAt own (waiter q i)) (q .len) (getD own t 0)
 
 -- the first of the n groups from k on that is long and that t holds; k + n where there is none
 abbrev pub heldFrom : List ℕ → List Group → ℕ → ℕ → ℕ → ℕ
 heldFrom kinds groups k n t = first (λ g. getD kinds g 0 is long && getD groups g noGroup .holder is t) k n
 
--- the effective rank of t, where there are n groups; as in `effective`, who holds none is raised by what waits at place n,
--- where nobody does in a sound state
+-- the effective rank of t, from the own ones, where there are n groups; as in `effective`, the queue at place n, empty in
+-- a sound state, counts for a task that holds none
 abbrev pub rankWith : List ℕ → List ℕ → ℕ → List Group → ℕ → ℕ
-rankWith own kinds n groups t = raisedBy own (getD groups (heldFrom kinds groups 0 n t) noGroup .queue) t
+rankWith own kinds n groups t = rankBefore own (getD groups (heldFrom kinds groups 0 n t) noGroup .queue) t
 
--- ---- modes and jobs
--- the mode of a task
+-- the mode of a task's job
 abbrev pub modeIn : List ℕ → Task → ℕ
 modeIn kinds x = modeFor (x .standing) (anyBelow (x .depth) (λ i. getD kinds (getD (x .requests) i nobody) 0 is short))
 
--- what the scheduler is told of the jobs, by the kinds and the count of the resources, the tasks and the groups
+-- what the scheduler is told of the jobs
 unfoldable pub jobsIn : List ℕ → ℕ → List Task → List Group → Jobs
 jobsIn kinds resources tasks groups =
     let own = table (λ t. rankBy (getD tasks t noTask .deadline) t) mostTasks in
-    told (table (rankWith own kinds (min resources mostResources) groups) mostTasks)
-        (table (λ t. modeIn kinds (getD tasks t noTask)) mostTasks)
+    told
+    (table (rankWith own kinds (min resources mostResources) groups) mostTasks)
+    (table (λ t. modeIn kinds (getD tasks t noTask)) mostTasks)

@@ -1,4 +1,4 @@
-// Priorities and modes, and the view of jobs that the scheduler is told.
+// Priorities, and the view of jobs that the scheduler is told.
 use input::SetUp;
 use processors::Jobs;
 use protocol::Group;
@@ -15,12 +15,12 @@ ghost use Rattle.queue.specs.Waiting.{waiter};
 ghost use Rattle.input.specs.Limits.{mostTasks, mostResources};
 ghost use Rattle.protocol.specs.Words.{noTask};
 ghost use Rattle.protocol.specs.Ranks.{leastOf, modeFor};
-ghost use Rattle.views.specs.Bounds.{rankBy, rankAt, raisedBy, rankWith, modeIn, jobsIn};
+ghost use Rattle.views.specs.Bounds.{rankBy, rankAt, rankBefore, rankWith, modeIn, jobsIn};
 
 // No deadline of a sound state is past this.
 const LATEST: u64 = 1099511627776;
 
-// A task's own rank: earlier deadline, then lower number; 0 of a deadline past the latest.
+// A task's own rank: earlier deadline, then lower number; 0 past the latest deadline.
 pub fn own_rank(deadline: u64, t: u8) -> u64
     ensures { λ r. ⌜ r ≡ rankBy deadline t ⌝ }
 {
@@ -43,11 +43,11 @@ pub fn own_ranks(tasks: [Task; SetUp::TASKS]) -> [u64; SetUp::TASKS]
 }
 
 // The own rank of task `t`; past the table, that of no task.
-fn rank_at(own: &[u64; SetUp::TASKS], t: u8) -> u64
-    ensures { λ r. ⌜ r ≡ rankAt (now (own .entry)) t ⌝ }
+fn rank_at(ranks: &[u64; SetUp::TASKS], t: u8) -> u64
+    ensures { λ r. ⌜ r ≡ rankAt (now (ranks .entry)) t ⌝ }
 {
     let i = t as usize;
-    if i < SetUp::TASKS { own[i] } else { t as u64 }
+    if i < SetUp::TASKS { ranks[i] } else { t as u64 }
 }
 
 fn least(a: u64, b: u64) -> u64
@@ -68,32 +68,18 @@ fn read_places(len: usize) -> usize
 }
 
 // The least of `rank` and the ranks of those that wait.
-fn least_waiting(own: &[u64; SetUp::TASKS], queue: Queue, rank: u64) -> u64
-    ensures { λ r. ⌜ r ≡ leastOf (λ i. rankAt (now (own .entry)) (waiter queue i)) (queue .len) rank ⌝ }
+fn least_waiting(ranks: &[u64; SetUp::TASKS], queue: Queue, rank: u64) -> u64
+    ensures { λ r. ⌜ r ≡ leastOf (λ i. rankAt (now (ranks .entry)) (waiter queue i)) (queue .len) rank ⌝ }
 {
     let mut best = rank;
     for i in 0..read_places(queue.len) {
-        best = least(rank_at(own, queue.waiter(i)), best);
+        best = least(rank_at(ranks, queue.waiter(i)), best);
     }
     best
 }
 
-// Every rank raised by those that wait in one queue; as they are where nobody waits.
-fn raised_by(own: [u64; SetUp::TASKS], queue: Queue) -> [u64; SetUp::TASKS]
-    ensures { λ r. ⌜ r ≡ table (raisedBy own queue) mostTasks ⌝ }
-{
-    let mut ranks = own;
-    if queue.len != 0 {
-        for t in 0..SetUp::TASKS {
-            let rank = own[t];
-            ranks[t] = least_waiting(&own, queue, rank);
-        }
-    }
-    ranks
-}
-
-// How many of the resources have a place.
-fn placed_count(resources: usize) -> usize
+// How many groups the table has of those of `resources` resources.
+fn read_groups(resources: usize) -> usize
     ensures { λ r. ⌜ r ≡ min resources mostResources ⌝ }
 {
     if resources <= SetUp::RESOURCES {
@@ -103,8 +89,22 @@ fn placed_count(resources: usize) -> usize
     }
 }
 
-// The effective ranks: who holds a long group is raised by those that wait there. From the last group to the first, so
-// that the lowest stays; who holds none is raised by the queue past the last group, where nobody waits in a sound state.
+// The ranks before any group is looked at. `queue` stands at the place past the groups; in a sound state it is empty.
+fn unraised(own: [u64; SetUp::TASKS], queue: Queue) -> [u64; SetUp::TASKS]
+    ensures { λ r. ⌜ r ≡ table (rankBefore own queue) mostTasks ⌝ }
+{
+    let mut ranks = own;
+    if 0 < queue.len {
+        for t in 0..SetUp::TASKS {
+            let rank = own[t];
+            ranks[t] = least_waiting(&own, queue, rank);
+        }
+    }
+    ranks
+}
+
+// The effective ranks, from the own ones: those that wait for a long group raise its holder. From the last group to the
+// first, so that the lowest that a task holds stays.
 pub fn ranks_of(
     own: [u64; SetUp::TASKS],
     kinds: [u8; SetUp::RESOURCES],
@@ -113,14 +113,14 @@ pub fn ranks_of(
 ) -> [u64; SetUp::TASKS]
     ensures { λ r. ⌜ r ≡ table (rankWith own kinds (min resources mostResources) groups) mostTasks ⌝ }
 {
-    let count = placed_count(resources);
+    let count = read_groups(resources);
     let past = if count < SetUp::RESOURCES {
         groups[count]
     } else {
         tables::no_group()
     };
-    let unheld = past.queue;
-    let mut ranks = raised_by(own, unheld);
+    let none = past.queue;
+    let mut ranks = unraised(own, none);
     for n in 0..count {
         let g = count - 1 - n;
         let group = groups[g];
@@ -157,7 +157,8 @@ pub fn mode_in(kinds: [u8; SetUp::RESOURCES], task: Task) -> u8
 {
     let requests = task.requests;
     let standing = task.standing;
-    mode_for(standing, tables::has_kind(kinds, requests, task.depth, SetUp::SHORT))
+    let holds = tables::has_kind(kinds, requests, task.depth, SetUp::SHORT);
+    mode_for(standing, holds)
 }
 
 pub fn modes_of(kinds: [u8; SetUp::RESOURCES], tasks: [Task; SetUp::TASKS]) -> [u8; SetUp::TASKS]
@@ -171,7 +172,7 @@ pub fn modes_of(kinds: [u8; SetUp::RESOURCES], tasks: [Task; SetUp::TASKS]) -> [
     modes
 }
 
-// What the scheduler is told of the jobs, by the kinds and the count of the resources, the tasks and the groups.
+// What the scheduler is told of the jobs, by the kinds and the number of the resources, the tasks and the groups.
 pub fn jobs_of(
     kinds: [u8; SetUp::RESOURCES],
     resources: usize,
