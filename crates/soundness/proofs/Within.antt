@@ -19,7 +19,8 @@ use Rattle.protocol.specs.Words.{mostRequests, noTask, task, stand, deadline, d
 use Rattle.protocol.specs.Sound.{clockSound, timesSound, requestsSound}
 use Rattle.protocol.specs.declared.Task.{Task}
 use Rattle.protocol.specs.declared.State.{State}
-use Rattle.views.specs.Bounds.{latest, isBounded, jobsWithin}
+use Rattle.views.specs.Bounds.{latest, isBounded}
+use Rattle.views.proofs.Telling.{jobs-ruled}
 use Rattle.soundness.specs.Parts.{frameSound, ViewIsRuled}
 
 pub tidy-len : (q : Queue) → isTidy q ≡ true → q .len ≤ capacity
@@ -62,5 +63,4 @@ module _ (s : State) where
       simp tests (accepted .resources, λ t h. dated-within (frame .0 .1) t (p t) (dates t h))
 
 pub view-ruled : ViewIsRuled
-unfolding jobsWithin
-view-ruled s p f = rw (within s p f)
+view-ruled s tasked p f = jobs-ruled s tasked (within s p f)

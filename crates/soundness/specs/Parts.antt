@@ -2,6 +2,7 @@
 use Prim.Native.Nat.{ℕ, _<_}
 use mathlib.Core.Path.{_≡_}
 use mathlib.Core.Bool.{Bool, true, _&&_}
+use lib.ListN.{length}
 use Rattle.search.specs.Words.{_is_}
 use Rattle.search.specs.Below.{allBelow}
 use Rattle.placement.specs.PlacedTest.{isPlaced}
@@ -12,16 +13,18 @@ use Rattle.setups.specs.Clearing.{isClear}
 use Rattle.protocol.specs.Ranks.{jobs}
 use Rattle.protocol.specs.Sound.{clockSound, timesSound, requestsSound, waitingSound, groupSound}
 use Rattle.protocol.specs.declared.State.{State}
-use Rattle.views.specs.Bounds.{jobsWithin}
+use Rattle.views.specs.Bounds.{jobsIn}
 
 -- the set-up, the clock and the times
 abbrev pub frameSound : State → Bool
 frameSound s = setUpRefusal (s .setup) is 0 && isClear (s .setup) && clockSound (s .setup) s && allBelow mostTasks (timesSound (s .setup) s)
 
--- where they hold, the view that the code tells is the rule's, whatever the depths and queues; a period has two bytes
+-- where they hold, the view that the code tells is the rule's, whatever the depths and queues; known from the types: how
+-- long the table of tasks is, and that a period has two bytes
 abbrev pub ViewIsRuled : Type 0
 ViewIsRuled =
-    (s : State) → ((t : ℕ) → period (s .setup) t < 65536) → frameSound s ≡ true → jobsWithin s ≡ jobs (s .setup) s
+    (s : State) → length (s .tasks) ≡ mostTasks → ((t : ℕ) → period (s .setup) t < 65536) → frameSound s ≡ true
+    → jobsIn (s .setup .kinds) (s .setup .resources) (s .tasks) (s .groups) ≡ jobs (s .setup) s
 
 -- the open requests, the waiting jobs and the groups
 abbrev pub locksSound : State → Bool

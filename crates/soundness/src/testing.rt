@@ -38,14 +38,19 @@ fn locks_hold(state: State, named: [u8; SetUp::RESOURCES]) -> bool
     }
 }
 
-// Links and placements. The ranks are told only within their bounds, which the set-up, the clock and the times see to.
+// Links and placements. The ranks are the rule's only within their bounds, which the set-up, the clock and the times see
+// to.
 fn placement_holds(state: State) -> bool
     requires { ⌜ frameSound state ≡ true ⌝ }
     ensures { λ r. ⌜ r ≡ placementSound state ⌝ }
 {
     let setup = state.setup;
     let p = state.processors;
-    (p.count == setup.processors) & placement::is_placed(p, views::jobs_of(state))
+    let kinds = setup.kinds;
+    let tasks = state.tasks;
+    let groups = state.groups;
+    let jobs = views::jobs_of(kinds, setup.resources, tasks, groups);
+    (p.count == setup.processors) & placement::is_placed(p, jobs)
 }
 
 // Every clause; the groups are `named`.

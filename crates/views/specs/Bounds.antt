@@ -46,8 +46,8 @@ rankBefore own q t = leastOf (λ i. rankAt own (waiter q i)) (q .len) (getD own 
 abbrev pub heldFrom : List ℕ → List Group → ℕ → ℕ → ℕ → ℕ
 heldFrom kinds groups k n t = first (λ g. getD kinds g 0 is long && getD groups g noGroup .holder is t) k n
 
--- the effective rank of t, from the own ones, where there are n groups; as in `effective`, the queue at place n, empty in
--- a sound state, counts for a task that holds none
+-- the effective rank of t, from the own ones, where there are n groups; as in `effective`, the queue at place n, which
+-- is empty in a sound state, counts for a task that holds none
 abbrev pub rankWith : List ℕ → List ℕ → ℕ → List Group → ℕ → ℕ
 rankWith own kinds n groups t = rankBefore own (getD groups (heldFrom kinds groups 0 n t) noGroup .queue) t
 
