@@ -225,7 +225,7 @@ module _ (s : State) (e : Event) (Q : Sound s) (ok : judge s e ≡ 0) (short-per
 
   pub told₂ : told (table (rankWith own₂ kinds (min (s .setup .resources) mostResources) gs₂) mostTasks) modes₂ ≡ jobs (s .setup) s₂
   unfolding charged
-  told₂ = keeps-told s₂ (clock + n) ts₂ gs₂ p w own₂ modes₂ stands₂ keeps₂ bounded₂
+  told₂ = keeps-told s₂ (clock + n) ts₂ gs₂ p w own₂ modes₂ stands₂ keeps₂ (length-set (s₁ .tasks) t (editOf e g s₁ .task) ∙ tasks-long) bounded₂
 
   moving : (d .turn ≡ leave) ⊎ (d .turn ≡ giveWay) → t < s .setup .tasks
   moving h = elim (decLt (e .kind) passing) [
@@ -282,12 +282,14 @@ module _ (s : State) (e : Event) (Q : Sound s) (ok : judge s e ≡ 0) (short-per
       some₁ q = some (sym u-is ∙ q)
 
       pub u-in : u < mostTasks
+      unfolding charged
       u-in = subst (λ (v : ℕ). v < mostTasks) u-is (next-in s₁ e (names (s .setup)) can g g-is some₁ .0)
 
       u-read : task s₃ u ≡ totalsAs (rowOf w u) (getD ts₂ u noTask)
       u-read = keeps-task s₃ (clock + n) ts₂ gs₂ p₃ w own₂ modes₂ stands₂ keeps₃ u u-in
 
       pub heir-may : getD ts₂ u noTask .depth < mostRequests
+      unfolding charged
       heir-may = subst (λ (x : Task). x .depth < mostRequests) (ap (task s₃) u-is ∙ u-read) (next-room s₁ e (names (s .setup)) can g g-is some₁)
 
       abbrev d₄ : Edit
@@ -335,7 +337,7 @@ module _ (s : State) (e : Event) (Q : Sound s) (ok : judge s e ≡ 0) (short-per
 
       pub told₄ : told (table (rankWith own₄ kinds (min (s .setup .resources) mostResources) gs₄) mostTasks) modes₄ ≡ jobs (s .setup) s₄
       unfolding charged movedBy
-      told₄ = keeps-told s₄ (clock + n) ts₄ gs₄ p₃ w own₄ modes₄ stands₄ keeps₄ bounded₄
+      told₄ = keeps-told s₄ (clock + n) ts₄ gs₄ p₃ w own₄ modes₄ stands₄ keeps₄ (length-set (s₃ .tasks) u _ ∙ tasks-long₃) bounded₄
 
       abbrev s₅ : State
       s₅ = movedBy (handing (task s₃ u) (group s₃ g) (d .turn) u .turn) u s₄

@@ -1,11 +1,11 @@
 -- A state stays within the bounds of its ranks where a record of a task is stored. Assumes nothing.
 use Prim.Native.Nat.{ℕ, _<_, _≤_}
-use mathlib.Core.Path.{_≡_, sym, ap, subst}
+use mathlib.Core.Path.{_≡_, sym, ap, _∙_, subst}
 use mathlib.Core.Bool.{true}
 use native.Mathlib.Omega.{arith}
-use native.Mathlib.Decide.{ℕ-discrete, decLt}
+use native.Mathlib.Decide.{ℕ-discrete}
 use lib.ListN.{length, set}
-use lib.Seq.{getD-set-same, getD-set-other, set-out}
+use lib.Seq.{getD-set-same, getD-set-other}
 use Rattle.search.proofs.Tests.{tests}
 use Rattle.input.specs.Limits.{mostTasks, mostResources}
 use Rattle.protocol.specs.Words.{noTask, task}

@@ -127,9 +127,9 @@ module _ (s : State) (clock : ℕ) (ts : List Task) (gs : List Group) (p : Proce
   }
 
   -- what the moves are told is the jobs of the state
-  pub keeps-told : isBounded s ≡ true → told (table (rankWith own (s .setup .kinds) (min (s .setup .resources) mostResources) gs) mostTasks) modes ≡ jobs (s .setup) s
+  pub keeps-told : length (s .tasks) ≡ mostTasks → isBounded s ≡ true → told (table (rankWith own (s .setup .kinds) (min (s .setup .resources) mostResources) gs) mostTasks) modes ≡ jobs (s .setup) s
   unfolding jobs
-  keeps-told h =
+  keeps-told long h =
       ap (λ (l : List ℕ). told l modes)
-      (ap (λ (l : List Group). table (rankWith own (s .setup .kinds) (min (s .setup .resources) mostResources) l) mostTasks) (K .grouped) ∙ ranks-ruled s h own (K .ranked))
+      (ap (λ (l : List Group). table (rankWith own (s .setup .kinds) (min (s .setup .resources) mostResources) l) mostTasks) (K .grouped) ∙ ranks-ruled s long h own (K .ranked))
       ∙ ap (told (table (effective (s .setup) s) mostTasks)) (K .ready ∙ modes-ruled s)

@@ -15,6 +15,25 @@ ghost use Rattle.protocol.specs.Words.{standingNo};
 ghost use Rattle.views.specs.Bounds.{rankBy, modeIn, rankWith};
 ghost use Rattle.locking.specs.Edits.{leave, giveWay, movedWith};
 
+// The number of task `t` in a table by task: one function for the ranks, and one for the tables of bytes.
+fn set_rank(ranks: &mut [u64], t: u8, rank: u64)
+    ensures { λ _. ⌜ now (ranks .exit) ≡ set (now (ranks .entry)) t rank ⌝ }
+{
+    let i = t as usize;
+    if i < ranks.len() {
+        ranks[i] = rank;
+    }
+}
+
+fn set_number(numbers: &mut [u8], t: u8, number: u8)
+    ensures { λ _. ⌜ now (numbers .exit) ≡ set (now (numbers .entry)) t number ⌝ }
+{
+    let i = t as usize;
+    if i < numbers.len() {
+        numbers[i] = number;
+    }
+}
+
 // Task `t` has another record: its own rank, its mode and its standing's number follow. They are kept along from event
 // to event, so that no move and no charge has to read every record again.
 pub fn keep(
@@ -29,17 +48,10 @@ pub fn keep(
         × (now (modes .exit) ≡ set (now (modes .entry)) t (modeIn kinds task))
         × (now (stands .exit) ≡ set (now (stands .entry)) t (standingNo (task .standing))) ⌝ }
 {
-    let i = t as usize;
     let standing = task.standing;
-    if i < own.len() {
-        own[i] = views::own_rank(task.deadline, t);
-    }
-    if i < modes.len() {
-        modes[i] = views::mode_in(kinds, task);
-    }
-    if i < stands.len() {
-        stands[i] = states::stand_of(standing);
-    }
+    set_rank(own, t, views::own_rank(task.deadline, t));
+    set_number(modes, t, views::mode_in(kinds, task));
+    set_number(stands, t, states::stand_of(standing));
 }
 
 // The move `turn` of task `t`. Effective ranks are told anew, from the own ranks and the groups as they now are.
@@ -68,7 +80,9 @@ pub fn moved(
         scheduler::arrive(p, &ranks, &modes, t, Processors::NOBODY)
     } else if turn == Edit::LEAVE {
         scheduler::leave(p, &ranks, &modes, setup.tasks, t)
-    } else {
+    } else if turn == Edit::GIVE_WAY {
         scheduler::give_way(p, &ranks, &modes, setup.tasks, t)
+    } else {
+        p
     }
 }

@@ -14,6 +14,15 @@ use protocol::Reply;
 use protocol::State;
 use protocol::Task;
 use soundness::Tested;
+ghost use mathlib.Core.Path.{_≡_};
+ghost use Prim.Native.Nat.{_+_, _≤_, _<_};
+ghost use lib.ListN.{length, getD};
+ghost use Rattle.input.specs.Limits.{mostResources};
+ghost use Rattle.setups.specs.Naming.{names};
+ghost use Rattle.protocol.specs.Words.{nobody};
+ghost use Rattle.protocol.specs.Sound.{sound};
+ghost use Rattle.states.specs.Writing.{lineSize, written};
+ghost use Rattle.locking.specs.Playing.{playable, playedTo, writtenTo, played};
 
 // Writes a line into `out` from `at` on, and gives the place behind it.
 fn put_line(out: &mut [u8], at: usize, line: [u8; Reply::LINE]) -> usize
@@ -34,7 +43,12 @@ fn place_in(named: [u8; SetUp::RESOURCES], r: u8) -> usize
     if g < SetUp::RESOURCES { g } else { 0 }
 }
 
+// The first `count` events of `part`, from a state that was tested.
 fn play_events(state: State, tested: Tested, part: &[u8], count: usize, out: &mut [u8]) -> State
+    requires { ⌜ (tested ≡ record { passes = sound state; named = names (state .setup) })
+        × (count ≡ playable (now part) (now out)) ⌝ }
+    ensures { λ r. ⌜ (r ≡ playedTo state (now (part .entry)) count)
+        × (now (out .exit) ≡ writtenTo state (now (part .entry)) (now (out .entry)) count) ⌝ }
 {
     let setup = state.setup;
     let kinds = setup.kinds;
