@@ -90,7 +90,7 @@ module _ (s : State) (e : Event) (Q : Sound s) (ok : judge s e ≡ 0) where
         omega (arith, (simp (tests, and-none-iff) at (no-row 4 (omega arith))) .0 (ap (λ (n : ℕ). not (fieldsOf n .task)) k))
   ]
 
-  g-in : (asking ≤ e .kind) × (e .kind ≤ completion) → groupOf (s .setup) (e .resource) < mostResources
+  pub g-in : (asking ≤ e .kind) × (e .kind ≤ completion) → groupOf (s .setup) (e .resource) < mostResources
   g-in k = let G = grouped s e Q ok in omega (arith, G .low (e .resource) (row12 s e Q ok k), G .few-resources)
 
   can-pass : (g : ℕ) → 0 < len s₁ g → CanPass s₁ g

@@ -14,6 +14,7 @@ use Rattle.search.specs.Table.{table}
 use Rattle.search.proofs.Tables.{table-length}
 use Rattle.processors.specs.Limits.{off}
 use Rattle.processors.specs.Words.{told, firstModes}
+use Rattle.processors.specs.declared.Jobs.{Jobs}
 use Rattle.processors.specs.declared.Processors.{Processors}
 use Rattle.processors.proofs.Told.{first-all}
 use Rattle.input.specs.Limits.{mostTasks, mostResources, short}
@@ -40,12 +41,13 @@ use Rattle.locking.specs.Acting.{CanAct}
 use Rattle.views.specs.Bounds.{latest, isBounded, rankBy, modeIn, rankWith}
 use Rattle.views.proofs.Bounding.{deadline-bounded}
 use Rattle.locking.specs.Edits.{arrive, leave, stay, soften, giveWay, openIn, keeping, requesting, completing, editing, handing, put, stored, movedWith, movedBy, handed, editOf, acted}
-use Rattle.locking.specs.Totals.{allTotals, rowOf, totalsAs, counted, chargedTo}
+use Rattle.locking.specs.Totals.{CanCharge, rowOf, totalsAs, chargedTo}
 use Rattle.locking.specs.Keeping.{Keeps}
 use Rattle.locking.specs.declared.acting.Edit.{Edit}
-use Rattle.locking.proofs.Accepted.{can-act, inside, room, charges}
+use Rattle.locking.proofs.Accepted.{can-act, inside, room, charges, g-in as group-in}
 use Rattle.locking.proofs.Acted.{acted-act, edit-needs, next-in, next-room, edited-deadline, handed-deadline}
 use Rattle.locking.proofs.Bounded.{put-bounded}
+use Rattle.locking.proofs.Totals.{counted-low}
 use Rattle.locking.proofs.Keeping.{charged-by, keeps-task, keeps-charge, keeps-store, keeps-move, keeps-told}
 
 -- ---- an edit takes the totals of a record along
@@ -357,3 +359,84 @@ module _ (s : State) (e : Event) (Q : Sound s) (ok : judge s e ≡ 0) (short-per
         unfolding acted handed
         ends-handed =
             sym (rw (ne-eqb (editOf e g s₁ .next) nobody some₁, u-is, ap (λ (z : Edit). z .turn) first-edit)) ∙ ends
+
+-- ---- the same over what the code has at hand: a set-up c, ticks, and records and tables under names of their own
+pub record Accepts (s : State) (e : Event) (c : SetUp) (clock : ℕ) (ts : List Task) (gs : List Group) (p : Processors) (totals own modes stands : List ℕ) (ticks : ℕ) : Type 0 where
+  pub sound : Sound s
+  pub ok : judge s e ≡ 0
+  pub given : c ≡ s .setup
+  pub short : (u : ℕ) → period (s .setup) u < 65536
+  pub keeps : Keeps s clock ts gs p totals own modes stands
+  pub stepped : ticks ≡ stepOf s e
+
+module _ (s : State) (e : Event) (c : SetUp) (clock : ℕ) (ts : List Task) (gs : List Group) (p : Processors) (totals own modes stands : List ℕ) (ticks : ℕ)
+    (X : Accepts s e c clock ts gs p totals own modes stands ticks) where
+  pub few-tasks : c .tasks ≤ mostTasks
+  few-tasks = rw (X .given) (grouped s e (X .sound) (X .ok) .few-tasks)
+
+  pub clock-room : clock + ticks ≤ lastClock
+  clock-room = rw (X .stepped, X .keeps .timed) (room s e (X .sound) (X .ok))
+
+  pub can-charge : CanCharge totals ticks
+  can-charge = record {
+    whole = X .keeps .all;
+    fits = λ k l. omega (arith, counted-low s ts totals (X .keeps .recorded) (s .clock) (charges s e (X .sound) (X .ok)) k l, clock-room, X .keeps .timed);
+  }
+
+  pub task-in : e .task < mostTasks
+  task-in = inside s e (X .sound) (X .ok)
+
+  module _ (g : ℕ) (g-in : g < mostResources) (g-is : getD (names c) (e .resource) nobody < mostResources → g ≡ getD (names c) (e .resource) nobody) where
+    at : (asking ≤ e .kind) × (e .kind ≤ completion) → g ≡ groupOf (s .setup) (e .resource)
+    unfolding groupOf
+    at k = (rw (X .given) at g-is) (group-in s e (X .sound) (X .ok) k)
+
+    abbrev d₂ : Edit
+    d₂ = editing (c .kinds) (period c (e .task)) (clock + ticks) (getD ts (e .task) noTask) (getD gs g noGroup) e
+
+    pub may-edit : (e .kind ≡ asking → getD ts (e .task) noTask .depth < mostRequests) × (e .kind ≡ completion → (0 < getD ts (e .task) noTask .depth) × (getD ts (e .task) noTask .depth ≤ mostRequests))
+    may-edit = edit-may s e (X .sound) (X .ok) (X .short) clock ts gs p totals own modes stands (X .keeps) g g-in at
+
+    module _ (x : Edit) (x-is : x ≡ d₂) (ownₓ modesₓ standsₓ : List ℕ) (own-is : ownₓ ≡ set own (e .task) (rankBy (x .task .deadline) (e .task)))
+        (modes-is : modesₓ ≡ set modes (e .task) (modeIn (c .kinds) (x .task))) (stands-is : standsₓ ≡ set stands (e .task) (standingNo (x .task .standing))) where
+      pub may-move : (x .turn ≡ leave) ⊎ (x .turn ≡ giveWay) → firstModes (c .tasks) modesₓ ≡ modesₓ
+      may-move = rw (modes-is, x-is, X .given, X .stepped) (quiet₂ s e (X .sound) (X .ok) (X .short) clock ts gs p totals own modes stands (X .keeps) g g-in at)
+
+      module _ (p₃ : Processors) (moves : p₃ ≡ movedWith (x .turn) p (told (table (rankWith ownₓ (c .kinds) (min (c .resources) mostResources) (set gs g (x .group))) mostTasks) modesₓ) (e .task)) where
+        rule-moves : p₃ ≡ movedWith (d s e (X .sound) (X .ok) (X .short) clock ts gs p totals own modes stands (X .keeps) g g-in at .turn) p (jobs (s .setup) (s₂ s e (X .sound) (X .ok) (X .short) clock ts gs p totals own modes stands (X .keeps) g g-in at)) (e .task)
+        rule-moves = (rw (own-is, modes-is, x-is, X .given, X .stepped) at moves) ∙ ap (λ (j : Jobs). movedWith (d s e (X .sound) (X .ok) (X .short) clock ts gs p totals own modes stands (X .keeps) g g-in at .turn) p j (e .task)) (told₂ s e (X .sound) (X .ok) (X .short) clock ts gs p totals own modes stands (X .keeps) g g-in at)
+
+        pub plays : x .next ≡ nobody → Keeps (step s e .state) (clock + ticks) (set ts (e .task) (x .task)) (set gs g (x .group)) p₃ (chargedTo p ticks stands totals (c .tasks)) ownₓ modesₓ standsₓ
+        plays h = rw (own-is, modes-is, stands-is, x-is, X .given, X .stepped) (subst
+            (λ (z : State). Keeps z (clock + stepOf s e) (ts₂ s e (X .sound) (X .ok) (X .short) clock ts gs p totals own modes stands (X .keeps) g g-in at) (gs₂ s e (X .sound) (X .ok) (X .short) clock ts gs p totals own modes stands (X .keeps) g g-in at) p₃ (w s e (X .sound) (X .ok) (X .short) clock ts gs p totals own modes stands (X .keeps) g g-in at) (own₂ s e (X .sound) (X .ok) (X .short) clock ts gs p totals own modes stands (X .keeps) g g-in at) (modes₂ s e (X .sound) (X .ok) (X .short) clock ts gs p totals own modes stands (X .keeps) g g-in at) (stands₂ s e (X .sound) (X .ok) (X .short) clock ts gs p totals own modes stands (X .keeps) g g-in at))
+            (ends-there s e (X .sound) (X .ok) (X .short) clock ts gs p totals own modes stands (X .keeps) g g-in at p₃ rule-moves (rw (x-is, X .given, X .stepped) at h)) (keeps₃ s e (X .sound) (X .ok) (X .short) clock ts gs p totals own modes stands (X .keeps) g g-in at p₃ rule-moves))
+
+        -- the next is handed the group
+        module _ (some : x .next ≡ nobody → ⊥) where
+          some₃ : d s e (X .sound) (X .ok) (X .short) clock ts gs p totals own modes stands (X .keeps) g g-in at .next ≡ nobody → ⊥
+          some₃ = rw (x-is, X .given, X .stepped) at some
+
+          pub next-may : (x .next < mostTasks) × (getD (set ts (e .task) (x .task)) (x .next) noTask .depth < mostRequests)
+          next-may = rw (x-is, X .given, X .stepped) (u-in s e (X .sound) (X .ok) (X .short) clock ts gs p totals own modes stands (X .keeps) g g-in at p₃ rule-moves some₃, heir-may s e (X .sound) (X .ok) (X .short) clock ts gs p totals own modes stands (X .keeps) g g-in at p₃ rule-moves some₃)
+
+          module _ (y : Edit) (y-is : y ≡ handing (getD (set ts (e .task) (x .task)) (x .next) noTask) (x .group) (x .turn) (x .next)) (ownᵧ modesᵧ standsᵧ : List ℕ)
+              (own-is₄ : ownᵧ ≡ set ownₓ (x .next) (rankBy (y .task .deadline) (x .next))) (modes-is₄ : modesᵧ ≡ set modesₓ (x .next) (modeIn (c .kinds) (y .task)))
+              (stands-is₄ : standsᵧ ≡ set standsₓ (x .next) (standingNo (y .task .standing))) where
+            groups-whole : length gs ≡ mostResources
+            groups-whole = ap length (X .keeps .grouped) ∙ X .sound .steady .sized .groups
+
+            y-law : y ≡ d₄ s e (X .sound) (X .ok) (X .short) clock ts gs p totals own modes stands (X .keeps) g g-in at p₃ rule-moves some₃
+            y-law = (rw (x-is, X .given, X .stepped) at y-is)
+                ∙ ap (λ (z : Group). handing (getD (ts₂ s e (X .sound) (X .ok) (X .short) clock ts gs p totals own modes stands (X .keeps) g g-in at) (d s e (X .sound) (X .ok) (X .short) clock ts gs p totals own modes stands (X .keeps) g g-in at .next) noTask) z (d s e (X .sound) (X .ok) (X .short) clock ts gs p totals own modes stands (X .keeps) g g-in at .turn) (d s e (X .sound) (X .ok) (X .short) clock ts gs p totals own modes stands (X .keeps) g g-in at .next)) (sym (getD-set-same gs g (d s e (X .sound) (X .ok) (X .short) clock ts gs p totals own modes stands (X .keeps) g g-in at .group) noGroup (omega (arith, groups-whole))))
+
+            pub next-moves : (y .turn ≡ leave) ⊎ (y .turn ≡ giveWay) → firstModes (c .tasks) modesᵧ ≡ modesᵧ
+            next-moves h = absurd (heir-stays _ _ _ _ (rw y-is at h))
+
+            module _ (p₅ : Processors) (moves₅ : p₅ ≡ movedWith (y .turn) p₃ (told (table (rankWith ownᵧ (c .kinds) (min (c .resources) mostResources) (set (set gs g (x .group)) g (y .group))) mostTasks) modesᵧ) (x .next)) where
+              rule-moves₅ : p₅ ≡ movedWith (d₄ s e (X .sound) (X .ok) (X .short) clock ts gs p totals own modes stands (X .keeps) g g-in at p₃ rule-moves some₃ .turn) p₃ (jobs (s .setup) (s₄ s e (X .sound) (X .ok) (X .short) clock ts gs p totals own modes stands (X .keeps) g g-in at p₃ rule-moves some₃)) (d s e (X .sound) (X .ok) (X .short) clock ts gs p totals own modes stands (X .keeps) g g-in at .next)
+              rule-moves₅ = (rw (own-is₄, modes-is₄, y-law, own-is, modes-is, x-is, X .given, X .stepped) at moves₅) ∙ ap (λ (j : Jobs). movedWith (d₄ s e (X .sound) (X .ok) (X .short) clock ts gs p totals own modes stands (X .keeps) g g-in at p₃ rule-moves some₃ .turn) p₃ j (d s e (X .sound) (X .ok) (X .short) clock ts gs p totals own modes stands (X .keeps) g g-in at .next)) (told₄ s e (X .sound) (X .ok) (X .short) clock ts gs p totals own modes stands (X .keeps) g g-in at p₃ rule-moves some₃)
+
+              pub plays-on : Keeps (step s e .state) (clock + ticks) (set (set ts (e .task) (x .task)) (x .next) (y .task)) (set (set gs g (x .group)) g (y .group)) p₅ (chargedTo p ticks stands totals (c .tasks)) ownᵧ modesᵧ standsᵧ
+              plays-on = rw (own-is₄, modes-is₄, stands-is₄, y-law, own-is, modes-is, stands-is, x-is, X .given, X .stepped) (subst
+                  (λ (z : State). Keeps z (clock + stepOf s e) (ts₄ s e (X .sound) (X .ok) (X .short) clock ts gs p totals own modes stands (X .keeps) g g-in at p₃ rule-moves some₃) (gs₄ s e (X .sound) (X .ok) (X .short) clock ts gs p totals own modes stands (X .keeps) g g-in at p₃ rule-moves some₃) p₅ (w s e (X .sound) (X .ok) (X .short) clock ts gs p totals own modes stands (X .keeps) g g-in at) (own₄ s e (X .sound) (X .ok) (X .short) clock ts gs p totals own modes stands (X .keeps) g g-in at p₃ rule-moves some₃) (modes₄ s e (X .sound) (X .ok) (X .short) clock ts gs p totals own modes stands (X .keeps) g g-in at p₃ rule-moves some₃) (stands₄ s e (X .sound) (X .ok) (X .short) clock ts gs p totals own modes stands (X .keeps) g g-in at p₃ rule-moves some₃))
+                  (ends-handed s e (X .sound) (X .ok) (X .short) clock ts gs p totals own modes stands (X .keeps) g g-in at p₃ rule-moves some₃ p₅ rule-moves₅) (keeps₅ s e (X .sound) (X .ok) (X .short) clock ts gs p totals own modes stands (X .keeps) g g-in at p₃ rule-moves some₃ p₅ rule-moves₅))
