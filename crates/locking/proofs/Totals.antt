@@ -236,9 +236,10 @@ module _ (p : Processors) (n : ℕ) (stands w : List ℕ) (t : ℕ) where
   }
 
   -- and after it
-  pub charge-turn : (place : ℕ) → place ≡ placeBy p t → chargedBy (getD stands t absent) place n t (chargedTo p n stands w t) ≡ chargedTo p n stands w (t + 1)
+  pub charge-turn : (place : ℕ) (before after : List ℕ) → place ≡ placeBy p t → before ≡ chargedTo p n stands w t
+      → after ≡ chargedBy (getD stands t absent) place n t before → after ≡ chargedTo p n stands w (t + 1)
   unfolding chargedTo
-  charge-turn place e = rw (add-one t, e) (elim (ℕ-discrete (getD stands t absent) absent) [
-    | yes g ↦ rw (eq-eqb (getD stands t absent) absent g)
-    | no d ↦ ap (λ i. addedFor (getD stands t absent) (totalCount * t + i) n (chargedTo p n stands w t)) (total-by-place (getD stands t absent) t p d)
+  charge-turn place before after e f g = rw (g, f, e, add-one t) (elim (ℕ-discrete (getD stands t absent) absent) [
+    | yes none ↦ rw (eq-eqb (getD stands t absent) absent none)
+    | no some ↦ ap (λ i. addedFor (getD stands t absent) (totalCount * t + i) n (chargedTo p n stands w t)) (total-by-place (getD stands t absent) t p some)
   ])
