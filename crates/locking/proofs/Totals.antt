@@ -111,14 +111,14 @@ module _ (p : Processors) (n : ℕ) (stands : List ℕ) where
   pub charged-length : (w : List ℕ) (m : ℕ) → length (chargedTo p n stands w m) ≡ length w
   unfolding chargedTo
   charged-length w zero = refl
-  charged-length w (suc m) = added-length (getD stands m absent) (countsAt p n stands m) n (chargedTo p n stands w m) ∙ charged-length w m
+  charged-length w (suc m) = added-length (getD stands m absent) (countsAt p stands m) n (chargedTo p n stands w m) ∙ charged-length w m
 
   -- the rows from m on are as they were
   pub charged-kept : (w : List ℕ) (m k : ℕ) → totalCount * m ≤ k → getD (chargedTo p n stands w m) k 0 ≡ getD w k 0
   unfolding chargedTo
   charged-kept w zero k h = refl
   charged-kept w (suc m) k h =
-      added-other (getD stands m absent) (countsAt p n stands m) n (chargedTo p n stands w m) k (λ g e. absurd (omega (arith, counts-low m g, e)))
+      added-other (getD stands m absent) (countsAt p stands m) n (chargedTo p n stands w m) k (λ g e. absurd (omega (arith, counts-low m g, e)))
       ∙ charged-kept w m k (omega arith)
 
   -- the row of a task below m is as with its own ticks alone
@@ -130,13 +130,13 @@ module _ (p : Processors) (n : ℕ) (stands : List ℕ) where
       let before = chargedTo p n stands w m in
       elim (ℕ-discrete t m) [
         | yes e ↦ rw e (last (omega (arith, e)))
-        | no d ↦ added-other (getD stands m absent) (countsAt p n stands m) n before k (λ _ e. absurd (omega (arith, e))) ∙ charged-own w m t k l (omega arith) (omega arith) f g
+        | no d ↦ added-other (getD stands m absent) (countsAt p stands m) n before k (λ _ e. absurd (omega (arith, e))) ∙ charged-own w m t k l (omega arith) (omega arith) f g
       ]
     where
       last : totalCount * m ≤ k → getD (chargedAt p n stands m (chargedTo p n stands w m)) k 0 ≡ getD (chargedAt p n stands m w) k 0
       last q = elim (ℕ-discrete (getD stands m absent) absent) [
         | yes e ↦ rw (eq-eqb (getD stands m absent) absent e) (charged-kept w m k q)
-        | no d ↦ added-same (getD stands m absent) (countsAt p n stands m) n (chargedTo p n stands w m) w k (omega (arith, counts-low m d, charged-length w m)) (charged-length w m) (charged-kept w m (countsAt p n stands m) (omega arith)) (charged-kept w m k q)
+        | no d ↦ added-same (getD stands m absent) (countsAt p stands m) n (chargedTo p n stands w m) w k (omega (arith, counts-low m d, charged-length w m)) (charged-length w m) (charged-kept w m (countsAt p stands m) (omega arith)) (charged-kept w m k q)
       ]
 
 -- a row of the table set is the row set
@@ -236,9 +236,10 @@ module _ (p : Processors) (n : ℕ) (stands w : List ℕ) (t : ℕ) where
   }
 
   -- and after it
-  pub charge-turn : (place : ℕ) → place ≡ placeBy p t → chargedBy (getD stands t absent) place n t (chargedTo p n stands w t) ≡ chargedTo p n stands w (t + 1)
+  pub charge-turn : (place : ℕ) (before after : List ℕ) → place ≡ placeBy p t → before ≡ chargedTo p n stands w t
+      → after ≡ chargedBy (getD stands t absent) place n t before → after ≡ chargedTo p n stands w (t + 1)
   unfolding chargedTo
-  charge-turn place e = rw (add-one t, e) (elim (ℕ-discrete (getD stands t absent) absent) [
-    | yes g ↦ rw (eq-eqb (getD stands t absent) absent g)
-    | no d ↦ ap (λ i. addedFor (getD stands t absent) (totalCount * t + i) n (chargedTo p n stands w t)) (total-by-place (getD stands t absent) t p d)
+  charge-turn place before after e f g = rw (g, f, e, add-one t) (elim (ℕ-discrete (getD stands t absent) absent) [
+    | yes none ↦ rw (eq-eqb (getD stands t absent) absent none)
+    | no some ↦ ap (λ i. addedFor (getD stands t absent) (totalCount * t + i) n (chargedTo p n stands w t)) (total-by-place (getD stands t absent) t p some)
   ])

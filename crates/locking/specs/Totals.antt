@@ -72,14 +72,14 @@ addedFor standing k n totals = if standing isn't absent then set totals k (getD 
 abbrev pub chargedBy : ℕ → ℕ → ℕ → ℕ → List ℕ → List ℕ
 chargedBy standing place n t totals = addedFor standing (totalCount * t + totalBy standing place) n totals
 
-module _ (p : Processors) (n : ℕ) (stands : List ℕ) where
-  -- where task t counts
-  abbrev pub countsAt : ℕ → ℕ
-  countsAt t = totalCount * t + totalOf (situationOf (getD stands t absent) p t)
+-- where task t counts, by the numbers of the standings
+abbrev pub countsAt : Processors → List ℕ → ℕ → ℕ
+countsAt p stands t = totalCount * t + totalOf (situationOf (getD stands t absent) p t)
 
+module _ (p : Processors) (n : ℕ) (stands : List ℕ) where
   -- the table with n ticks charged to task t, if it is pending
   abbrev pub chargedAt : ℕ → List ℕ → List ℕ
-  chargedAt t totals = addedFor (getD stands t absent) (countsAt t) n totals
+  chargedAt t totals = addedFor (getD stands t absent) (countsAt p stands t) n totals
 
   -- the table with n ticks charged to each pending task below i
   unfoldable pub chargedTo : List ℕ → ℕ → List ℕ

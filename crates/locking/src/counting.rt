@@ -98,7 +98,7 @@ fn places_of(p: Processors) -> [u8; SetUp::TASKS]
     places
 }
 
-// The total of a pending task, whose standing has the number `stand`.
+// The total of a pending task, whose standing has the number `stand` and whose total by the processors is `place`.
 fn total_by(stand: u8, place: u8) -> u8
     ensures { λ r. ⌜ r ≡ totalBy stand place ⌝ }
 {

@@ -60,8 +60,7 @@ loop-again c =
     let place = getD (c .before .before .before .before .before .before .places-of .result) (o .t) 0 in
     let inside : o .t < mostTasks = omega (arith, start .pre .0, c .before .before .before .before .loop-test .taken) in (
       omega arith,
-      λ p e. (rw (o .inv .1 p e) at (c .before .before .charge-task .ensures))
-          ∙ charge-turn p (a .ticks) (a .t2) (a .totals .now) (o .t) place (ap (λ (l : List ℕ). getD l (o .t) 0) e ∙ table-at (placeBy p) mostTasks (o .t) 0 inside),
+      λ p e. charge-turn p (a .ticks) (a .t2) (a .totals .now) (o .t) place (o .totals) _ (ap (λ (l : List ℕ). getD l (o .t) 0) e ∙ table-at (placeBy p) mostTasks (o .t) 0 inside) (o .inv .1 p e) (c .before .before .charge-task .ensures),
     )
 
 same-length : tie.Need-same-length Inv-loop μ-loop
