@@ -1,10 +1,11 @@
-/* Reads the bytes before a block's check once per call and adds them up: what a check cannot do without.
-   pass CALLS reads a block from standard input and prints a number made of the sums. */
+/* Reads the bytes before a block's check once in each call and adds them up: what a check cannot do without.
+   Standard input has the block, and in two bytes, low byte first, how many hundred calls are made. */
 #include <stdint.h>
 #include <stdio.h>
-#include <stdlib.h>
 
 #include "blocks.h"
+
+enum { CALLS = 100 };
 
 /* Every sum ends here, so that none can be left out. */
 static volatile uint32_t sink;
@@ -17,16 +18,15 @@ static uint32_t sum_of(const uint8_t *block)
     return sum;
 }
 
-int main(int words, char **word)
+int main(void)
 {
-    static uint8_t block[BLOCK_BYTES];
-    if (words != 2 || fread(block, 1, sizeof block, stdin) != sizeof block) {
-        fprintf(stderr, "usage: pass CALLS < BLOCK\n");
+    static uint8_t input[BLOCK_BYTES + 2];
+    if (fread(input, 1, sizeof input, stdin) != sizeof input)
         return 2;
-    }
-    for (unsigned long call = strtoul(word[1], NULL, 10); call > 0; call--) {
-        block[call % CHECK_PLACE] ^= 1; /* so that no pass is over the same bytes as the last */
-        sink += sum_of(block);
+    unsigned calls = CALLS * (input[BLOCK_BYTES] + 256u * input[BLOCK_BYTES + 1]);
+    for (unsigned call = 0; call < calls; call++) {
+        input[call % CHECK_PLACE]++; /* so that no call is over the bytes of the last */
+        sink += sum_of(input);
     }
     printf("%u\n", (unsigned)sink);
     return 0;
