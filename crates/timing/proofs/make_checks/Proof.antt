@@ -2,11 +2,12 @@ use borrow.Author.Needs.{needs}
 use mathlib.Core.Path.{_≡_}
 use Prim.Native.Nat.{_-_, _≤_}
 use lib.ListN.{length}
+use Rattle.blocks.specs.Sizes.{blockSize}
 use Rattle.timing.proofs.make_checks.Statement.{statement}
 use Rattle.timing.proofs.make_checks.Tie as tie
 
 abbrev Inv-loop : tie.InvT-loop
-Inv-loop index calls given block₀ accepted₀ i₀ block accepted i = (length block ≡ 512) × (i ≤ calls)
+Inv-loop index calls given block₀ accepted₀ i₀ block accepted i = (length block ≡ blockSize) × (i ≤ calls)
 
 abbrev μ-loop : tie.MeasureT-loop
 μ-loop index calls given block₀ accepted₀ i₀ block accepted i = calls - i
