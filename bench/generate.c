@@ -1,7 +1,9 @@
-/* Writes a random block file to standard output: generate SEED BLOCKS [large|small].
+/* Writes a random block file to standard output:
+   generate SEED BLOCKS [large [PROCESSORS TASKS]], or generate SEED BLOCKS small.
    large: a good set-up and BLOCKS full blocks of events, most of them accepted.
    small: a small set-up with much contention and up to BLOCKS blocks of events; some files with a fault.
-   The same words give the same file. */
+   The same words give the same file. PROCESSORS and TASKS take the place of the numbers drawn for them;
+   the start and the resources of the set-up are those of the file without them. */
 #include <stdio.h>
 #include <stdlib.h>
 #include <string.h>
@@ -91,11 +93,20 @@ static void draw_periods(struct setup *setup, unsigned digits)
         setup->period[t] = chance(2) ? between(60000, 65535) : 1 + below(bit(between(2, digits)));
 }
 
-static void draw_large_setup(struct setup *setup)
+/* Numbers that are asked for; 0 leaves the one that is drawn. */
+struct asked {
+    uint8_t processors, tasks;
+};
+
+static void draw_large_setup(struct setup *setup, struct asked asked)
 {
     memset(setup, 0, sizeof *setup);
     setup->processors = between(1, PROCESSORS_LIMIT);
     setup->tasks = between(TASKS_LIMIT / 2, TASKS_LIMIT);
+    if (asked.processors != 0)
+        setup->processors = asked.processors;
+    if (asked.tasks != 0)
+        setup->tasks = asked.tasks;
     setup->resources = between(RESOURCES_LIMIT / 4, RESOURCES_LIMIT);
     setup->start = chance(50) ? 65536 * between(1, 1000) - between(1, 300) : below(UINT32_C(1) << 30);
     draw_kinds(setup, between(20, 60));
@@ -322,14 +333,14 @@ static void seal_events(struct state *state, const struct style *style, uint8_t 
     write_check(block);
 }
 
-static void generate_large(uint32_t blocks)
+static void generate_large(uint32_t blocks, struct asked asked)
 {
     static struct state state;
     struct setup setup;
     uint8_t block[BLOCK_BYTES];
     struct style style = { .accepted = 90, .still = 30, .longest = 12, .leap = 1, .nesting = 40,
         .finishing = 30, .hot = 4 };
-    draw_large_setup(&setup);
+    draw_large_setup(&setup, asked);
     seal_setup(block, &setup);
     write_block(block, sizeof block);
     begin(&state, &setup);
@@ -566,19 +577,32 @@ static void generate_small(uint32_t blocks)
     write_block(file.block[0], file.length);
 }
 
+/* A word as a number from 1 to the limit, or 0. */
+static uint32_t number_in(const char *word, uint32_t limit)
+{
+    unsigned long number = strtoul(word, NULL, 10);
+    return number <= limit ? (uint32_t)number : 0;
+}
+
 int main(int words, char **word)
 {
     bool small = words == 4 && strcmp(word[3], "small") == 0;
-    bool large = words == 3 || (words == 4 && strcmp(word[3], "large") == 0);
-    uint32_t blocks = words >= 3 ? (uint32_t)strtoul(word[2], NULL, 10) : 0;
+    bool large = words == 3 || ((words == 4 || words == 6) && strcmp(word[3], "large") == 0);
+    uint32_t blocks = words >= 3 ? number_in(word[2], UINT32_MAX) : 0;
+    struct asked asked = { 0, 0 };
+    if (words == 6) {
+        asked.processors = number_in(word[4], PROCESSORS_LIMIT);
+        asked.tasks = number_in(word[5], TASKS_LIMIT);
+        large = large && asked.processors != 0 && asked.tasks != 0;
+    }
     if ((!small && !large) || blocks == 0) {
-        fprintf(stderr, "usage: generate SEED BLOCKS [large|small]\n");
+        fprintf(stderr, "usage: generate SEED BLOCKS [large [PROCESSORS TASKS] | small]\n");
         return 2;
     }
     random_state = strtoull(word[1], NULL, 10);
     if (small)
         generate_small(blocks);
     else
-        generate_large(blocks);
+        generate_large(blocks, asked);
     return 0;
 }

@@ -9,11 +9,11 @@ find_toolchain() {
     tools=${RATTLE_HOME:-$(dirname "$(dirname "$rt")")}/on/$(uname -m)/toolchain
     loader=$tools/lib/ld-linux-x86-64.so.2
     [ -f "$loader" ] || die "no loader at $loader: set RATTLE_HOME to the toolchain's folder"
-    # Programs are for x86-64; elsewhere the toolchain has an emulator. It runs `rep movsb` a byte at a time, so the C
-    # library is told to copy by wider moves there.
+    # Programs are for x86-64; elsewhere the toolchain has an emulator. It runs `rep movsb` and `rep stosb` a byte at a
+    # time, so the C library is told to copy and to fill by wider moves there, whatever the length.
     emulator=$tools/bin/qemu-x86_64
     if [ -x "$emulator" ]; then
-        GLIBC_TUNABLES=glibc.cpu.x86_rep_movsb_threshold=1073741824
+        GLIBC_TUNABLES=glibc.cpu.x86_rep_movsb_threshold=1073741824:glibc.cpu.x86_rep_stosb_threshold=1073741824
         export GLIBC_TUNABLES
     else
         emulator=''

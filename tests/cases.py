@@ -23,8 +23,9 @@ sys.dont_write_bytecode = True
 
 import calls
 import slips
+import timing
 from blocks import block_of, blocks_of, record, setup
-from model import (CHECK_AT, HEAD, KINDS_AT, PAIRS_AT, PASS, PERIODS_AT, SETUP_BYTES, Session,
+from model import (BLOCK, CHECK_AT, HEAD, KINDS_AT, PAIRS_AT, PASS, PERIODS_AT, SETUP_BYTES, Session,
                    check_of, printed, verdict)
 from scenario import EVENT_KINDS, Reader, file_of, setup_lines
 
@@ -162,9 +163,33 @@ def stored():
         'crates/edges/stdout': (stdout + calls.expected()).encode(),
         'crates/step/stdin': CASES[0].data,
         'crates/step/stdout': PRINTED[1:].encode(),
+        'crates/timing/stdin': timing.given(timed_blocks(), ORDERS),
+        'crates/timing/stdout': timing.expected(timed_blocks(), ORDERS).encode(),
         'crates/make/stdin': EVERY_ITEM,
         'crates/make/stdout': file_of(EVERY_ITEM),
     }
+
+
+# What crates/timing calls: each of its calls, nothing, and a call no times.
+ORDERS = [(timing.STEPS, 1), (timing.TESTS, 1), (timing.CHECKS, 1), (b'n', 1), (timing.STEPS, 0)]
+
+
+def timed_blocks():
+    """The printed case in two blocks, so late that the clock can go on by 91 ticks after the first."""
+    play = '''
+    arrive 0      @65436  #= 0 0/0 -/-
+    arrive 1      @65438  #= 0 0/0 1/1
+    request 1 0   @65441  #= 0 0/0 1/1
+    arrive 2      @65444  #= 0 0/0 2/1
+    block
+    request 0 0   @65446  #= 0 0/0 2/1
+    complete 1 0  @65451  #= 0 0/0 2/2
+    finish 1      @65451  #= 19 0/0 2/2
+    finish 2      @65454  #= 0 0/0 1/1
+    '''
+    one = Case('timing', setup(2, [100, 200, 50], 'short', start=4294967196), play, (), None, {})
+    judged(one)
+    return [one.data[at:at + BLOCK] for at in range(0, len(one.data), BLOCK)]
 
 
 # A scenario with every item, lines of both ends, tabs, remarks, and an event that the rules would refuse.

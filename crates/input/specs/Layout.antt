@@ -1,6 +1,6 @@
 -- Document 01, 'Blocks': a set-up and an event as bytes. What is not there reads 0.
-use Prim.Native.Nat.{ℕ, _+_, _*_, _/_}
-use mathlib.Core.List.{List}
+use Prim.Native.Nat.{ℕ, _+_, _*_, _/_, _%_}
+use mathlib.Core.List.{List, [], _∷_}
 use lib.ListN.{length, getD}
 use Rattle.search.specs.Table.{table}
 use Rattle.input.specs.Limits.{mostTasks, mostResources, mostPairs}
@@ -26,6 +26,17 @@ setUpSize = pairsAt + 2 * mostPairs
 
 abbrev pub eventSize : ℕ
 eventSize = 6
+
+-- the two bytes of a number, which stand low first
+abbrev pub low : ℕ → ℕ
+low n = n % 256
+
+abbrev pub high : ℕ → ℕ
+high n = n / 256
+
+-- kind, task, resource, reserve, tick
+abbrev pub eventBytes : Event → List ℕ
+eventBytes e = e .kind ∷ e .task ∷ e .resource ∷ 0 ∷ low (e .tick) ∷ high (e .tick) ∷ []
 
 module _ (bytes : List ℕ) where
   abbrev pub byte : ℕ → ℕ

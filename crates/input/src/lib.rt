@@ -1,6 +1,7 @@
 // What a session is given: a set-up and events, by call or from bytes.
 mod events;
 mod reading;
+mod writing;
 
 pub use events::fields_of;
 pub use reading::byte_at;
@@ -8,6 +9,9 @@ pub use reading::event_at;
 pub use reading::event_count;
 pub use reading::set_up_from;
 pub use reading::word_of;
+pub use writing::event_bytes;
+pub use writing::high;
+pub use writing::low;
 ghost use mathlib.Core.Path.{_≡_};
 ghost use Rattle.input.specs.Words.{noSetUp};
 

@@ -12,7 +12,7 @@ use Rattle.search.specs.Rows.{Row, _when_, _otherwise_}
 use Rattle.input.specs.Limits.{nothing}
 use Rattle.states.specs.Writing.{written}
 use Rattle.states.proofs.Writing.{written-join}
-use Rattle.search.specs.Texts.{codes, digit, digits, decimal, eachText}
+use Rattle.search.specs.Texts.{codes, digit, digits, decimal, mostDigits, eachText}
 use Rattle.texts.specs.Buffers.{Put}
 use Rattle.texts.specs.Lines.{taskText, placeText}
 use Rattle.texts.specs.Buffers.{lineLimit, lineInto, narrow}
@@ -53,6 +53,14 @@ digits-many (suc k) n some many =
 
 pub digits-longer : (k n : ℕ) → (k ≡ 0 → ⊥) → 10 ≤ n → length (digits k n) ≡ length (digits (k - 1) (n / 10)) + 1
 digits-longer k n some many = ap length (digits-many k n some many) ∙ length-append (digits (k - 1) (n / 10)) (digit n)
+
+-- a number of one digit, and of two
+pub decimal-one : (n : ℕ) → n < 10 → decimal n ≡ digit n
+decimal-one n few = digits-few mostDigits n (λ e. absurd (omega (arith, e))) few
+
+pub decimal-two : (n : ℕ) → 10 ≤ n → n < 100 → decimal n ≡ digit (n / 10) ++ digit n
+decimal-two n many few =
+    digits-many mostDigits n (λ e. absurd (omega (arith, e))) many ∙ ap (λ (l : List ℕ). l ++ digit n) (digits-few (mostDigits - 1) (n / 10) (λ e. absurd (omega (arith, e))) (omega arith))
 
 -- ---- tasks
 pub task-none : {t : ℕ} → t ≡ nothing → taskText t ≡ codes "-"

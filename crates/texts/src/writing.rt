@@ -43,10 +43,18 @@ fn put_digits(out: &mut [u8], at: usize, n: u64, most: u8) -> usize
     put_digit(out, behind, n)
 }
 
+// Nearly every number of a line, as a task or an answer, is below 100 and is written at once.
 pub fn put_number(out: &mut [u8], at: usize, n: u64) -> usize
     requires { ⌜ at + length (decimal n) ≤ length (now out) ⌝ }
     ensures { λ r. ⌜ Put (now (out .entry)) at (decimal n) r (now (out .exit)) ⌝ }
 {
+    if n < 10 {
+        return put_digit(out, at, n);
+    }
+    if n < 100 {
+        let tens = put_digit(out, at, n / 10);
+        return put_digit(out, tens, n);
+    }
     put_digits(out, at, n, MOST_DIGITS)
 }
 

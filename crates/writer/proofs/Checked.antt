@@ -11,7 +11,7 @@ use borrow.Author.Tests.{lt-ltb, le-ltb}
 use Rattle.search.specs.Table.{table}
 use Rattle.search.proofs.Tables.{table-length, table-at, table-of, table-turn, table-all, table-same}
 use Rattle.search.proofs.Tests.{tests}
-use Rattle.input.specs.Layout.{byte, word}
+use Rattle.input.specs.Layout.{byte, word, low, high}
 use Rattle.blocks.specs.Sizes.{payloadAt, checkAt, blockSize, payloadSize}
 use Rattle.blocks.specs.Check.{words, checkOf, isChecked}
 use Rattle.blocks.specs.OneByte.{AreBytes}
@@ -19,7 +19,7 @@ use Rattle.blocks.specs.Verdicts.{payload}
 use Rattle.blocks.specs.declared.Check.{Check}
 use Rattle.blocks.proofs.Sums.{sums-same}
 use Rattle.writer.proofs.Few.{below-four}
-use Rattle.writer.specs.Sealed.{low, high, bodyByte, bodyInto, checkBehind, sealedByte, sealed}
+use Rattle.writer.specs.Sealed.{bodyByte, bodyInto, checkBehind, sealedByte, sealed}
 
 -- the four stores of a check, and that they go on with a table
 abbrev stored : List ℕ → ℕ → ℕ → ℕ → ℕ → List ℕ

@@ -5,10 +5,10 @@ use native.Mathlib.Omega.{arith}
 use lib.ListN.{getD}
 use borrow.Author.Tests.{lt-ltb, le-ltb}
 use Rattle.search.proofs.Tables.{table-at, replicate-at}
-use Rattle.input.specs.Layout.{eventSize}
+use Rattle.input.specs.Layout.{eventSize, eventBytes}
 use Rattle.blocks.specs.Sizes.{payloadSize}
 use Rattle.input.specs.Kinds.{noEvent}
-use Rattle.writer.specs.EventBlocks.{eventBytes, eventOf, eventsByte, eventsPayload}
+use Rattle.writer.specs.EventBlocks.{eventOf, eventsByte, eventsPayload}
 use Rattle.writer.specs.declared.Events.{Events}
 
 module _ (x : Events) where

@@ -12,13 +12,14 @@ use Rattle.search.specs.Below.{allBelow}
 use Rattle.search.specs.Words.{_is_}
 use Rattle.search.proofs.Tables.{table-same}
 use Rattle.search.proofs.Tests.{tests}
-use Rattle.input.specs.Layout.{byte, word, eventSize, eventIn, eventCount}
+use Rattle.input.specs.Layout.{byte, eventSize, eventIn, eventCount, low, high, eventBytes}
+use Rattle.input.proofs.Bytes.{event-of-bytes}
 use Rattle.blocks.specs.Sizes.{payloadSize, eventBlock, mostEvents}
 use Rattle.blocks.specs.Verdicts.{payload, count, isBlank, isEventFilled, verdict, usedPart}
 use Rattle.blocks.specs.declared.Verdict.the-variants.{Used}
 use Rattle.blocks.proofs.Numbers.{used-length}
-use Rattle.writer.specs.Sealed.{low, high, headOf, sealed}
-use Rattle.writer.specs.EventBlocks.{eventBytes, eventOf, kept, eventsByte, eventsPayload, blockOfEvents, eventRows, eventsWritten, eventsRead}
+use Rattle.writer.specs.Sealed.{headOf, sealed}
+use Rattle.writer.specs.EventBlocks.{eventOf, kept, eventsByte, eventsPayload, blockOfEvents, eventRows, eventsWritten, eventsRead}
 use Rattle.writer.specs.declared.Events.{Events}
 use Rattle.writer.specs.RoundTrip.{EventsAccepted, EventsBack, EachEventBack}
 use Rattle.writer.proofs.Answers.{lent-free, EventsFree, events-free}
@@ -91,18 +92,7 @@ module _ (x : Events) (index : ℕ) (free : EventsFree x index) where
   field-at j k l h = read-at (eventSize * j + k) (omega arith) ∙ event-byte x (eventSize * j + k) j k refl h
 
   event-back : (j : ℕ) → j < mostEvents → eventIn part j ≡ eventOf x j
-  unfolding eventIn
-  event-back j h =
-      let e = eventOf x j in
-      let z : eventSize * j + 0 ≡ eventSize * j = omega arith in
-      let five : eventSize * j + 4 + 1 ≡ eventSize * j + 5 = omega arith in
-      let a : byte part (eventSize * j) ≡ e .kind = rw z at (field-at j 0 h (omega arith)) in
-      let b : byte part (eventSize * j + 1) ≡ e .task = field-at j 1 h (omega arith) in
-      let d : byte part (eventSize * j + 2) ≡ e .resource = field-at j 2 h (omega arith) in
-      let f : byte part (eventSize * j + 4) ≡ low (e .tick) = field-at j 4 h (omega arith) in
-      let g : byte part (eventSize * j + 4 + 1) ≡ high (e .tick) = rw five (field-at j 5 h (omega arith)) in
-      let t : word part (eventSize * j + 4) ≡ e .tick = omega (arith, f, g) in
-      rw (a, b, d, t)
+  event-back j h = event-of-bytes part j (eventOf x j) (λ k l. field-at j k h l)
 
   block-back : eventsRead part ≡ kept x
   unfolding eventsRead kept eventCount

@@ -12,7 +12,7 @@ use Rattle.search.specs.Below.{allBelow}
 use Rattle.search.specs.Words.{_is_}
 use Rattle.search.proofs.Tables.{table-at}
 use Rattle.search.proofs.Tests.{tests, and-iff}
-use Rattle.input.specs.Layout.{byte, word, eventSize, eventIn, eventCount}
+use Rattle.input.specs.Layout.{byte, word, eventSize, eventIn, eventCount, low, high, eventBytes}
 use Rattle.input.specs.declared.Event.{Event}
 use Rattle.blocks.specs.Sizes.{payloadAt, payloadSize, eventBlock, mostEvents}
 use Rattle.blocks.specs.OneByte.{AreBytes}
@@ -20,10 +20,10 @@ use Rattle.blocks.specs.Verdicts.{payload, count, isBlank, isEventFilled, verdi
 use Rattle.blocks.specs.declared.Verdict.the-variants.{Used}
 use Rattle.blocks.proofs.Limits.{used-size}
 use Rattle.blocks.proofs.Numbers.{used-length}
-use Rattle.writer.specs.Sealed.{low, high, headOf}
+use Rattle.writer.specs.Sealed.{headOf}
 use Rattle.writer.specs.Written.{lentRows}
 use Rattle.input.specs.Kinds.{noEvent}
-use Rattle.writer.specs.EventBlocks.{eventBytes, eventOf, eventsByte, eventsPayload, blockOfEvents, eventRows, eventsWritten, eventsRead}
+use Rattle.writer.specs.EventBlocks.{eventOf, eventsByte, eventsPayload, blockOfEvents, eventRows, eventsWritten, eventsRead}
 use Rattle.writer.specs.declared.Events.{Events}
 use Rattle.writer.specs.RoundTrip.{EventsSame}
 use Rattle.writer.proofs.Answers.{lent-zero, written-zero, EventsFree, free-events}

@@ -11,7 +11,7 @@ use lib.Seq.{getD-drop, getD-take}
 use Rattle.search.specs.Words.{_isn't_}
 use Rattle.search.proofs.Tests.{tests}
 use Rattle.search.specs.Numbered.{NoneApplies}
-use Rattle.input.specs.Layout.{byte, word}
+use Rattle.input.specs.Layout.{byte, word, low, high}
 use Rattle.input.specs.Words.{within}
 use Rattle.blocks.specs.Sizes.{kindAt, payloadAt, blockSize, lastIndex, numbers}
 use Rattle.blocks.specs.Check.{isChecked}
@@ -19,7 +19,7 @@ use Rattle.blocks.specs.Verdicts.{kindFor, mostFor, payload, count, isFilled, u
 use Rattle.blocks.specs.declared.Verdict.the-variants.{Used}
 use Rattle.blocks.specs.OneByte.{AreBytes}
 use Rattle.blocks.proofs.Numbers.{judge-none}
-use Rattle.writer.specs.Sealed.{low, high, headOf}
+use Rattle.writer.specs.Sealed.{headOf}
 use Rattle.writer.proofs.Few.{below-four}
 
 pub record Right (block : List ℕ) (index : ℕ) : Type 0 where

@@ -8,7 +8,7 @@ use Rattle.search.specs.Words.{if_then_else_, _is_}
 use Rattle.search.proofs.Tables.{table-of}
 use Rattle.search.proofs.Tests.{tests}
 use Rattle.input.specs.Limits.{mostTasks, mostResources, mostPairs}
-use Rattle.input.specs.Layout.{byte, word, periodsAt, kindsAt, pairsAt, setUpSize, startIn, periodsIn, kindsIn, sideIn, setUpIn}
+use Rattle.input.specs.Layout.{byte, word, periodsAt, kindsAt, pairsAt, setUpSize, startIn, periodsIn, kindsIn, sideIn, setUpIn, low, high}
 use Rattle.input.specs.Words.{period, kind, outerOf, innerOf}
 use Rattle.input.specs.declared.SetUp.{SetUp}
 use Rattle.setups.specs.Clearing.{cleared, emptyFrom, isClear}
@@ -17,7 +17,7 @@ use Rattle.setups.proofs.Cleared.{cleared-sized, cleared-clear}
 use Rattle.blocks.specs.Sizes.{payloadSize, setUpBlock}
 use Rattle.blocks.specs.Verdicts.{payload, isBlank, isSetUpFilled, verdict, usedPart}
 use Rattle.blocks.specs.declared.Verdict.the-variants.{Used}
-use Rattle.writer.specs.Sealed.{low, high, headOf, sealed}
+use Rattle.writer.specs.Sealed.{headOf, sealed}
 use Rattle.writer.specs.SetUpBlocks.{setUpByte, setUpPayload, blockOfSetUp, setUpWritten}
 use Rattle.writer.specs.RoundTrip.{SetUpAccepted, SetUpBack}
 use Rattle.writer.proofs.Checked.{sealed-length, sealed-head, sealed-payload, sealed-checked}

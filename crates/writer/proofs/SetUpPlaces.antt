@@ -6,11 +6,10 @@ use lib.ListN.{getD}
 use borrow.Author.Tests.{lt-ltb, le-ltb}
 use Rattle.search.proofs.Tables.{table-at}
 use Rattle.input.specs.Limits.{mostTasks, mostPairs}
-use Rattle.input.specs.Layout.{startAt, periodsAt, kindsAt, pairsAt, setUpSize}
+use Rattle.input.specs.Layout.{startAt, periodsAt, kindsAt, pairsAt, setUpSize, low, high}
 use Rattle.input.specs.Words.{period, kind, outerOf, innerOf}
 use Rattle.input.specs.declared.SetUp.{SetUp}
 use Rattle.blocks.specs.Sizes.{payloadSize}
-use Rattle.writer.specs.Sealed.{low, high}
 use Rattle.writer.specs.SetUpBlocks.{countBytes, startBytes, periodByte, pairByte, setUpByte, setUpPayload}
 
 module _ (c : SetUp) where

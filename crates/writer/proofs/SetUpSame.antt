@@ -10,7 +10,7 @@ use lib.ListN.{getD}
 use Rattle.search.proofs.Tables.{table-length, table-at}
 use Rattle.search.proofs.Tests.{tests, and-iff}
 use Rattle.input.specs.Limits.{mostTasks, mostResources, mostPairs}
-use Rattle.input.specs.Layout.{byte, word, startAt, periodsAt, kindsAt, pairsAt, setUpSize, startIn, periodsIn, kindsIn, sideIn, setUpIn}
+use Rattle.input.specs.Layout.{byte, word, startAt, periodsAt, kindsAt, pairsAt, setUpSize, startIn, periodsIn, kindsIn, sideIn, setUpIn, low, high}
 use Rattle.input.specs.Words.{period, kind, outerOf, innerOf}
 use Rattle.input.specs.declared.SetUp.{SetUp}
 use Rattle.setups.specs.Clearing.{emptyFrom, isClear}
@@ -22,7 +22,7 @@ use Rattle.blocks.specs.OneByte.{AreBytes}
 use Rattle.blocks.specs.Verdicts.{payload, count, isBlank, isSetUpFilled, verdict, usedPart}
 use Rattle.blocks.specs.declared.Verdict.the-variants.{Used}
 use Rattle.blocks.proofs.Limits.{used-size}
-use Rattle.writer.specs.Sealed.{low, high, headOf}
+use Rattle.writer.specs.Sealed.{headOf}
 use Rattle.writer.specs.Written.{lentRows}
 use Rattle.writer.specs.SetUpBlocks.{countBytes, startBytes, setUpByte, setUpPayload, blockOfSetUp, setUpWritten}
 use Rattle.writer.specs.RoundTrip.{SetUpSame}

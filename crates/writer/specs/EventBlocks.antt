@@ -1,24 +1,20 @@
 -- Document 01, 'Blocks', and ticket 1: the block that is written of events, and events from a block that was read.
 use Prim.Native.Nat.{ℕ, _/_, _%_}
 use mathlib.Core.Bool.{not, _||_}
-use mathlib.Core.List.{List, [], _∷_}
+use mathlib.Core.List.{List, []}
 use lib.Dec.{ltb}
 use lib.ListN.{getD}
 use Rattle.search.specs.Words.{if_then_else_, _is_}
 use Rattle.search.specs.Rows.{Row, _when_, _otherwise_}
 use Rattle.search.specs.Table.{table}
 use Rattle.input.specs.Kinds.{noEvent}
-use Rattle.input.specs.Layout.{eventSize, eventIn, eventCount}
+use Rattle.input.specs.Layout.{eventSize, eventBytes, eventIn, eventCount}
 use Rattle.input.specs.Words.{within}
 use Rattle.input.specs.declared.Event.{Event}
 use Rattle.blocks.specs.Sizes.{payloadSize, lastIndex, eventBlock, mostEvents}
-use Rattle.writer.specs.Sealed.{low, high, headOf, sealed}
+use Rattle.writer.specs.Sealed.{headOf, sealed}
 use Rattle.writer.specs.Written.{lentRows, writtenBy}
 use Rattle.writer.specs.declared.Events.{Events}
-
--- kind, task, resource, reserve, tick
-abbrev pub eventBytes : Event → List ℕ
-eventBytes e = e .kind ∷ e .task ∷ e .resource ∷ 0 ∷ low (e .tick) ∷ high (e .tick) ∷ []
 
 module _ (x : Events) where
   -- the i-th event; from the count on there is none

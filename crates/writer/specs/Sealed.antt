@@ -1,20 +1,14 @@
 -- Document 01, 'Blocks': a block by its places, and the check behind it.
-use Prim.Native.Nat.{ℕ, _-_, _/_, _%_}
+use Prim.Native.Nat.{ℕ, _-_, _%_}
 use mathlib.Core.List.{List, [], _∷_, _++_}
 use lib.Dec.{ltb}
 use lib.ListN.{getD, drop}
 use Rattle.search.specs.Words.{if_then_else_}
 use Rattle.search.specs.Table.{table}
+use Rattle.input.specs.Layout.{low, high}
 use Rattle.blocks.specs.Sizes.{payloadAt, checkAt, blockSize, numbers}
 use Rattle.blocks.specs.Check.{checkOf}
 use Rattle.blocks.specs.declared.Check.{Check}
-
--- the two bytes of a number, which stand low first
-abbrev pub low : ℕ → ℕ
-low n = n % 256
-
-abbrev pub high : ℕ → ℕ
-high n = n / 256
 
 -- the number of a block, its kind and its count
 abbrev pub headOf : ℕ → ℕ → ℕ → List ℕ

@@ -6,13 +6,13 @@ use lib.ListN.{getD}
 use Rattle.search.specs.Words.{if_then_else_, _is_}
 use Rattle.search.specs.Table.{table}
 use Rattle.input.specs.Limits.{mostProcessors, mostTasks, mostResources, mostPairs}
-use Rattle.input.specs.Layout.{startAt, periodsAt, kindsAt, pairsAt, setUpSize}
+use Rattle.input.specs.Layout.{startAt, periodsAt, kindsAt, pairsAt, setUpSize, low, high}
 use Rattle.input.specs.Words.{period, kind, outerOf, innerOf}
 use Rattle.input.specs.declared.SetUp.{SetUp}
 use Rattle.setups.specs.Clearing.{cleared}
 use Rattle.setups.specs.Refusals.{setUpRows}
 use Rattle.blocks.specs.Sizes.{payloadSize, setUpBlock}
-use Rattle.writer.specs.Sealed.{low, high, headOf, sealed}
+use Rattle.writer.specs.Sealed.{headOf, sealed}
 use Rattle.writer.specs.Written.{lentRows, writtenBy}
 
 -- the counts are those of a set-up within the limits, so that each is one byte

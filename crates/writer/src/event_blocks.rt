@@ -2,8 +2,6 @@
 use crate::Events;
 use crate::sealing::PAYLOAD;
 use crate::sealing::head_of;
-use crate::sealing::high;
-use crate::sealing::low;
 use crate::sealing::put_block;
 use blocks::Block;
 use input::Event;
@@ -14,13 +12,6 @@ ghost use Rattle.search.specs.Table.{table};
 ghost use Rattle.input.specs.Layout.{eventIn};
 ghost use Rattle.blocks.specs.Sizes.{payloadSize, mostEvents};
 ghost use Rattle.writer.specs.EventBlocks.{eventOf, eventsByte, eventsPayload, eventRows, eventsWritten, eventsRead};
-ghost use Rattle.writer.specs.EventBlocks as spec;
-
-fn event_bytes(e: Event) -> [u8; Event::SIZE]
-    ensures { λ r. ⌜ r ≡ spec.eventBytes e ⌝ }
-{
-    [e.kind, e.task, e.resource, 0, low(e.tick), high(e.tick)]
-}
 
 // The `i`-th event; from the count on there is none.
 fn event_of(events: Events, i: usize) -> Event
@@ -39,7 +30,7 @@ fn events_byte(events: Events, i: usize) -> u8
     requires { ⌜ i < payloadSize ⌝ }
     ensures { λ r. ⌜ r ≡ eventsByte events i ⌝ }
 {
-    let bytes = event_bytes(event_of(events, i / Event::SIZE));
+    let bytes = input::event_bytes(event_of(events, i / Event::SIZE));
     bytes[i % Event::SIZE]
 }
 

@@ -1,25 +1,13 @@
 // A block from its head and its payload, with the check behind them.
 use blocks::Block;
+use input::high;
+use input::low;
 ghost use mathlib.Core.Path.{_≡_};
 ghost use lib.ListN.{length};
 ghost use Rattle.blocks.specs.Sizes.{blockSize};
 ghost use Rattle.writer.specs.Sealed.{headOf, bodyByte, bodyInto, sealed};
-ghost use Rattle.writer.specs.Sealed as spec;
 
 pub const PAYLOAD: usize = Block::CHECK_AT - Block::PAYLOAD_AT;
-
-// The two bytes of a number.
-pub fn low(n: u16) -> u8
-    ensures { λ r. ⌜ r ≡ spec.low n ⌝ }
-{
-    (n % 256) as u8
-}
-
-pub fn high(n: u16) -> u8
-    ensures { λ r. ⌜ r ≡ spec.high n ⌝ }
-{
-    (n / 256) as u8
-}
 
 pub fn head_of(index: u64, kind: u8, count: u8) -> [u8; Block::PAYLOAD_AT]
     ensures { λ r. ⌜ r ≡ headOf index kind count ⌝ }

@@ -1,11 +1,11 @@
 // The block of a set-up.
 use crate::sealing::PAYLOAD;
 use crate::sealing::head_of;
-use crate::sealing::high;
-use crate::sealing::low;
 use crate::sealing::put_block;
 use blocks::Block;
 use input::SetUp;
+use input::high;
+use input::low;
 ghost use mathlib.Core.Path.{_≡_};
 ghost use Prim.Native.Nat.{_*_, _<_};
 ghost use Rattle.input.specs.Limits.{mostTasks, mostPairs};

@@ -1,7 +1,7 @@
 -- `event_bytes` meets its contract. Assumes nothing.
 use borrow.Author.Needs.{needs}
-use Rattle.writer.proofs.event_blocks.event_bytes.Statement.{statement}
-use Rattle.writer.proofs.event_blocks.event_bytes.Tie as tie
+use Rattle.input.proofs.writing.event_bytes.Statement.{statement}
+use Rattle.input.proofs.writing.event_bytes.Tie as tie
 
 low-requires : tie.Need-low-requires
 low-requires c κs = search needs

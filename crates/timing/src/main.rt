@@ -1,0 +1,159 @@
+// What single calls take: standard input has a block file and orders for calls, standard output tells what came of each
+// order. bench/run times it with many calls and with none.
+//
+// The input: one byte, how many blocks of events are played first; the block of the set-up; those blocks; the block that
+// the calls are about; then orders, three bytes each, up to the input's end: what is called, and how many hundred times,
+// low byte first.
+use blocks::Block;
+use libc::STDIN_FILENO;
+use libc::STDOUT_FILENO;
+use protocol::Reply;
+use protocol::State;
+ghost use lib.ListN.{length};
+ghost use mathlib.Core.Path.{_≡_};
+ghost use Rattle.blocks.specs.Sizes.{blockSize};
+
+// What is called, as an order says it: a step, a sound test, or a block's check. Anything else is nothing.
+const STEPS: u8 = b's';
+
+const TESTS: u8 = b't';
+
+const CHECKS: u8 = b'c';
+
+// How many calls an order counts as one.
+const CALLS: u64 = 100;
+
+// More orders than an input has.
+const MOST_ORDERS: u64 = 1000;
+
+// The next block of the input. What is not there reads 0, and such a block is refused.
+fn read_block() -> [u8; Block::SIZE]
+    ensures { λ r. ⌜ length r ≡ blockSize ⌝ }
+{
+    let mut block = [0u8; Block::SIZE];
+    io::read_full(STDIN_FILENO, &mut block);
+    block
+}
+
+fn begin_from(block: &[u8]) -> State {
+    let part = blocks::used_part(block, blocks::judge(block, 0));
+    states::begin(input::set_up_from(part)).state
+}
+
+fn play_block(state: State, block: &[u8], index: u64) -> State {
+    let mut out = [0u8; Block::MOST_EVENTS as usize * Reply::LINE];
+    let part = blocks::used_part(block, blocks::judge(block, index));
+    locking::play(state, part, &mut out).state
+}
+
+// Plays the next blocks of the input: those behind the set-up's.
+fn play_blocks(begun: State, count: u64) -> State {
+    let mut state = begun;
+    for i in 0..count {
+        let block = read_block();
+        let next = play_block(state, &block, i + 1);
+        state = next;
+    }
+    state
+}
+
+// One more, where something came out well.
+fn count_if(passed: bool, count: u64) -> u64 {
+    if passed {
+        std::num::wrapping_add_u64(count, 1)
+    } else {
+        count
+    }
+}
+
+// Steps through the events of a part, each from the state before it, and behind the last again from the begun state;
+// gives how many were accepted.
+fn make_steps(begun: State, part: &[u8], calls: u64) -> u64 {
+    let events = input::event_count(part);
+    let mut state = begun;
+    let mut at = 0;
+    let mut accepted = 0;
+    for _ in 0..calls {
+        if at == events {
+            state = begun;
+            at = 0;
+        }
+        let reply = locking::step(state, input::event_at(part, at));
+        let next = reply.state;
+        accepted = count_if(reply.answer == 0, accepted);
+        state = next;
+        at = std::num::wrapping_add_usize(at, 1);
+    }
+    accepted
+}
+
+// Tests a state whose clock goes on by a tick before each test, so that no two tests are of the same state; gives how
+// many passed.
+fn make_tests(begun: State, calls: u64) -> u64 {
+    let mut state = begun;
+    let mut passed = 0;
+    for _ in 0..calls {
+        state.clock = std::num::wrapping_add_u32(state.clock, 1);
+        passed = count_if(soundness::is_sound(state), passed);
+    }
+    passed
+}
+
+// Checks a block whose last byte, of the check, is another in every second call; gives how often it was accepted.
+fn make_checks(given: [u8; Block::SIZE], index: u64, calls: u64) -> u64 {
+    let mut block = given;
+    let mut accepted = 0;
+    for i in 0..calls {
+        block[Block::SIZE - 1] = if i % 2 == 0 {
+            given[Block::SIZE - 1]
+        } else {
+            !given[Block::SIZE - 1]
+        };
+        let number = blocks::number_of(blocks::judge(&block, index));
+        accepted = count_if(number == 0, accepted);
+    }
+    accepted
+}
+
+// Makes the calls of an order, and gives how many of them came out well.
+fn follow(what: u8, state: State, block: [u8; Block::SIZE], index: u64, calls: u64) -> u64 {
+    match what {
+        STEPS => {
+            let part = blocks::used_part(&block, blocks::judge(&block, index));
+            make_steps(state, part, calls)
+        }
+        TESTS => make_tests(state, calls),
+        CHECKS => make_checks(block, index, calls),
+        _ => 0,
+    }
+}
+
+// Follows the next order and tells how many of its calls came out well; past the input's end there is none.
+fn take_order(state: State, block: [u8; Block::SIZE], index: u64) -> bool {
+    let mut order = [0u8; 3];
+    let got = io::read_full(STDIN_FILENO, &mut order);
+    if got < 3 {
+        return false;
+    }
+    let calls = CALLS * (input::word_of(order[1], order[2]) as u64);
+    io::print_decimal(STDOUT_FILENO, follow(order[0], state, block, index, calls));
+    io::write_all(STDOUT_FILENO, b"\n");
+    true
+}
+
+// Follows the orders up to the input's end.
+fn follow_all(state: State, block: [u8; Block::SIZE], index: u64) {
+    let mut left = MOST_ORDERS;
+    while left > 0 && take_order(state, block, index) {
+        left -= 1;
+    }
+}
+
+fn main() {
+    let mut head = [0u8; 1];
+    io::read_full(STDIN_FILENO, &mut head);
+    let played = input::byte_at(&head, 0) as u64;
+    let first = read_block();
+    let state = play_blocks(begin_from(&first), played);
+    follow_all(state, read_block(), played + 1);
+}
