@@ -50,6 +50,11 @@ step-answer s e = elim (ℕ-discrete (judge s e) 0) [
   | no x ↦ rw (ne-eqb (judge s e) 0 x)
 ]
 
+-- a refused event leaves the state
+pub refused-stays : (s : State) (e : Event) → (judge s e ≡ 0 → ⊥) → step s e .state ≡ s
+unfolding step stepBy
+refused-stays s e x = rw (ne-eqb (judge s e) 0 x)
+
 -- no task of a sound state has more requests open than there may be
 pub few-open : (s : State) → Shaped s → sound s ≡ true → (t : ℕ) → task s t .depth ≤ mostRequests
 unfolding depth

@@ -369,7 +369,7 @@ pub record Accepts (s : State) (e : Event) (c : SetUp) (clock : ℕ) (ts : List 
   pub keeps : Keeps s clock ts gs p totals own modes stands
   pub stepped : ticks ≡ stepOf s e
 
-module _ (s : State) (e : Event) (c : SetUp) (clock : ℕ) (ts : List Task) (gs : List Group) (p : Processors) (totals own modes stands : List ℕ) (ticks : ℕ)
+module _ {s : State} {e : Event} {c : SetUp} {clock : ℕ} {ts : List Task} {gs : List Group} {p : Processors} {totals own modes stands : List ℕ} {ticks : ℕ}
     (X : Accepts s e c clock ts gs p totals own modes stands ticks) where
   pub few-tasks : c .tasks ≤ mostTasks
   few-tasks = rw (X .given) (grouped s e (X .sound) (X .ok) .few-tasks)

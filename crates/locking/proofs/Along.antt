@@ -28,7 +28,7 @@ use Rattle.states.proofs.Writing.{written-long}
 
 -- ---- the state
 module _ (s : State) (part : List ℕ) where
-  sound-along : Sound s → (n : ℕ) → Sound (playedTo s part n) × (playedTo s part n .setup ≡ s .setup)
+  pub sound-along : Sound s → (n : ℕ) → Sound (playedTo s part n) × (playedTo s part n .setup ≡ s .setup)
   unfolding playedTo
   sound-along Q zero = (Q, refl)
   sound-along Q (suc n) =

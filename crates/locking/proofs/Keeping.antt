@@ -14,6 +14,7 @@ use Rattle.search.proofs.Tables.{table-length, table-at, table-of, table-same}
 use Rattle.processors.specs.Words.{told}
 use Rattle.processors.specs.declared.Processors.{Processors}
 use Rattle.input.specs.Limits.{mostTasks, mostResources}
+use Rattle.input.specs.declared.SetUp.{SetUp}
 use Rattle.protocol.specs.Words.{absent, totalCount, noTask, standingNo, stand, task}
 use Rattle.protocol.specs.Ranks.{effective, jobs}
 use Rattle.protocol.specs.Situations.{situation, totalOf}
@@ -133,3 +134,7 @@ module _ (s : State) (clock : ℕ) (ts : List Task) (gs : List Group) (p : Proce
       ap (λ (l : List ℕ). told l modes)
       (ap (λ (l : List Group). table (rankWith own (s .setup .kinds) (min (s .setup .resources) mostResources) l) mostTasks) (K .grouped) ∙ ranks-ruled s long h own (K .ranked))
       ∙ ap (told (table (effective (s .setup) s) mostTasks)) (K .ready ∙ modes-ruled s)
+
+  -- the state put together again
+  pub keeps-state : (c : SetUp) (l : List Task) → c ≡ s .setup → l ≡ counted ts totals → record { setup = c; clock = clock; tasks = l; groups = gs; processors = p } ≡ s
+  keeps-state c l c-is l-is = rw (c-is, l-is ∙ sym (K .recorded), K .timed, K .grouped, K .placed)

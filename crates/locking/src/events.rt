@@ -26,7 +26,7 @@ pub fn judge(state: State, e: Event) -> u8
 pub fn step(state: State, e: Event) -> Reply
     ensures { λ r. ⌜ r ≡ stepRule state e ⌝ }
 {
-    let part = [e.kind, e.task, e.resource, 0, (e.tick % 256) as u8, (e.tick / 256) as u8];
+    let part = input::event_bytes(e);
     let mut line = [0u8; Reply::LINE];
     let played = play(state, &part, &mut line);
     let next = played.state;

@@ -13,10 +13,25 @@ task-at-requires : tie.Need-task-at-requires
 task-at-requires c κs = search needs
 
 judge-parts-requires : tie.Need-judge-parts-requires
-judge-parts-requires c κs = ?
+judge-parts-requires c κs = λ known.
+    let start = c .before .before .before .before .before .before in
+    let tested = c .before .before .before .before .before .test .ensures in
+    rw (c .task-at .ensures) (few-open (start .args .state) (shaped _ _ (start .good .0)) (sym (ap (λ (x : Tested). x .passes) tested) ∙ known) (start .args .e .task))
 
 returns : tie.Need-returns
-returns c = ?
+returns c =
+    let start = c .before .before .before .before .before .before .before in
+    let tested = c .before .before .before .before .before .before .test .ensures in
+    let read = c .before .task-at in
+    c .judge-parts .ensures (start .args .state) (record {
+      given = refl;
+      timed = refl;
+      totals = read .result .totals;
+      recorded = sym (read .ensures);
+      placed = refl;
+      naming = ap (λ (x : Tested). x .named) tested;
+      tested = ap (λ (x : Tested). x .passes) tested;
+    })
 
 pub judge-spec : {M : Type 1} → statement M
 judge-spec = tie.close (tie.spec test-requires task-at-requires judge-parts-requires returns)
