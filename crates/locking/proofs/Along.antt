@@ -2,27 +2,31 @@
 use Prim.Native.Nat.{ℕ, zero, suc, _+_, _*_, _<_, _≤_}
 use mathlib.Core.Path.{_≡_, refl, sym, ap, _∙_}
 use mathlib.Core.Bool.{Bool, true, false}
-use mathlib.Core.List.{List}
+use mathlib.Core.List.{List, [], _∷_}
 use native.Mathlib.Numerals.{add-one}
 use native.Mathlib.Omega.{arith}
-use lib.ListN.{length}
+use lib.ListN.{length, getD, set}
+use lib.Seq.{getD-set-same, getD-set-other}
 use Rattle.input.specs.Limits.{mostTasks}
-use Rattle.input.specs.Layout.{eventIn}
+use Rattle.input.specs.Layout.{eventIn, eventCount, eventBytes}
+use Rattle.input.proofs.Bytes.{event-read}
 use Rattle.input.specs.declared.Event.{Event}
 use Rattle.setups.specs.Naming.{names}
 use Rattle.protocol.specs.Words.{mostRequests, task, depth}
 use Rattle.protocol.specs.Sound.{sound}
+use Rattle.protocol.specs.Events.{step}
 use Rattle.protocol.specs.declared.State.{State}
 use Rattle.protocol.specs.declared.Task.{Task}
 use Rattle.protocol.specs.declared.Reply.{Reply}
 use Rattle.protocol.proofs.Statements.{Sound}
 use Rattle.protocol.proofs.Reflect.{Shaped, sound-of-test, test-of-sound}
 use Rattle.protocol.proofs.Step.{step-sound, step-setup}
-use Rattle.states.specs.Writing.{lineSize, lineOf, written}
+use Rattle.processors.specs.Limits.{processors}
+use Rattle.states.specs.Writing.{lineSize, places, lineOf, written}
 use Rattle.soundness.specs.declared.Tested.{Tested}
 use Rattle.locking.specs.Totals.{totalsAs}
 use Rattle.locking.specs.Steps.{HasParts}
-use Rattle.locking.specs.Playing.{playable, playedTo, replyTo, writtenTo}
+use Rattle.locking.specs.Playing.{playable, playedTo, replyTo, writtenTo, played}
 use Rattle.locking.proofs.Accepted.{unsound-stepped}
 use Rattle.states.proofs.Writing.{written-long}
 
@@ -99,3 +103,25 @@ module _ (s : State) (part out : List ℕ) where
       → written (writtenTo s part out n) (lineSize * n) line ≡ writtenTo s part out (n + 1)
   unfolding writtenTo
   buffer-turn n answer x line a h l = rw (add-one n, l, a, h)
+
+-- ---- a part of one event, as its six bytes
+written-kept : (bytes : List ℕ) (at : ℕ) (text : List ℕ) (i : ℕ) → i < at → getD (written bytes at text) i 0 ≡ getD bytes i 0
+unfolding written
+written-kept bytes at [] i l = refl
+written-kept bytes at (x ∷ text) i l = written-kept (set bytes at x) (suc at) text i (omega arith) ∙ getD-set-other bytes at i x 0 (λ q. omega (arith, q))
+
+module _ (s : State) (e : Event) (out : List ℕ) (long : length out ≡ lineSize) where
+  one-event : playable (eventBytes e) out ≡ 1
+  unfolding playable eventCount
+  one-event = rw long
+
+  pub one-state : played s (eventBytes e) out .0 .state ≡ step s e .state
+  unfolding played playedTo
+  one-state = ap (λ (n : ℕ). playedTo s (eventBytes e) n) one-event ∙ ap (λ (x : Event). step s x .state) (event-read e)
+
+  pub one-answer : getD (played s (eventBytes e) out .1) 0 0 ≡ step s e .answer
+  unfolding played writtenTo playedTo lineOf written
+  one-answer =
+      let r = step s (eventIn (eventBytes e) 0) in
+      ap (λ (n : ℕ). getD (writtenTo s (eventBytes e) out n) 0 0) one-event
+      ∙ written-kept (set out 0 (r .answer)) 1 (places (r .state .processors) processors) 0 (omega arith) ∙ getD-set-same out 0 (r .answer) 0 (omega (arith, long)) ∙ ap (λ (x : Event). step s x .answer) (event-read e)
