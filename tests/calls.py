@@ -73,22 +73,21 @@ def page(text, index, events, over, kept, number=0):
 
 @dataclass
 class Hostile:
-    """The clause of 'A sound state' that a hostile number breaks, and what of it is seen: how many jobs are told, its
-    places, its totals."""
+    """The clause of 'A sound state' that a hostile number breaks, and what of it is seen: its places, its totals."""
     clause: str
-    jobs: int = 3
     places: str = PLACES
     totals: tuple = tuple(TOTALS)
 
 
 # Jobs told: the document leaves open what they are in a state that is not sound. Three are pending and none is
-# suspended, so three are runnable; but the crate `views` says that it tells none of a state whose resources or deadlines
-# are past their bounds. Places and totals: the document has at most 8 processors and 32 tasks.
+# suspended, so three are runnable, whatever else is hostile. Places and totals: the document has at most 8 processors and
+# 32 tasks.
+RUNNABLE = 3
 NEVER = ((0,) * 5,) * 29
 HOSTILE = [
     Hostile('processors: set-up within the limits', places=PLACES + ' -/-' * 6),
     Hostile('tasks: set-up within the limits', totals=(*TOTALS, *NEVER)),
-    Hostile('resources: set-up within the limits', jobs=0),
+    Hostile('resources: set-up within the limits'),
     Hostile('pairs: set-up within the limits'),
     Hostile('start: at most the clock'),
     Hostile("period of task 0: a pending job's deadline is its last arrival plus its period"),
@@ -96,7 +95,7 @@ HOSTILE = [
     Hostile('outer of pair 0: free of 4'),
     Hostile('inner of pair 0: free of 4'),
     Hostile('clock and start: last arrivals between them'),
-    Hostile('deadline of task 0: its last arrival plus its period', jobs=0),
+    Hostile('deadline of task 0: its last arrival plus its period'),
     Hostile('last arrival of task 0: at most the clock'),
     Hostile('a total of task 0: sum at most clock minus start', totals=((MOST_32, 0, 0, 0, 0), *TOTALS[1:])),
     Hostile('totals of task 0: sum at most clock minus start', totals=((MOST_32,) * 5, *TOTALS[1:])),
@@ -118,7 +117,7 @@ HOSTILE = [
     Hostile('running 254 on processor 7: places beyond the counts are empty'),
     Hostile('holder 254 of group 31: places beyond the counts are empty'),
     Hostile('request 254 of task 31: places beyond the counts are empty'),
-    Hostile('all at once', jobs=0, places='254/254 2/1' + ' -/-' * 5 + ' 254/254',
+    Hostile('all at once', places='254/254 2/1' + ' -/-' * 5 + ' 254/254',
             totals=((MOST_32,) * 5, *TOTALS[1:], *NEVER)),
 ]
 
@@ -129,7 +128,7 @@ def sound_rows():
     Time passes to tick 9: accepted, and the state is another. The second event played has kind 255: 10.
     """
     first, event, task = 'processors 2 tasks 3 start 65530', f'6 0 {PLACES}', 'task 0 10 0 0 0 0'
-    return ['events 1 0 0 0 0 10 2 0', f'told 1 3 {line(first)} {line(event)} {line(task)}',
+    return ['events 1 0 0 0 0 10 2 0', f'told 1 {RUNNABLE} {line(first)} {line(event)} {line(task)}',
             'block ' + page(f'{event}\n', 2, 6, 0, 0), 'end ' + page(totals_text(TOTALS), 1, 5, 1, 1)]
 
 
@@ -143,7 +142,7 @@ def hostile_rows(one):
     the places are those of the same state.
     end: the normal end, so the output is over; the totals of each task.
     """
-    return ['events 0 9 9 1 9 9 2 1', f'told 0 {one.jobs} {refused(9)} {refused(9)} {refused(9)}',
+    return ['events 0 9 9 1 9 9 2 1', f'told 0 {RUNNABLE} {refused(9)} {refused(9)} {refused(9)}',
             'block ' + page(f'6 9 {one.places}\n', 2, 6, 0, 1), 'end ' + page(totals_text(one.totals), 1, 5, 1, 1)]
 
 

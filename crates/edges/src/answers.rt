@@ -57,10 +57,15 @@ fn tell_events(which: u64, state: State, busy: State) {
 
 // How many jobs the scheduler is told of.
 fn told_jobs(state: State) -> u64 {
-    let jobs = views::jobs_of(state);
+    let setup = state.setup;
+    let kinds = setup.kinds;
+    let tasks = state.tasks;
+    let groups = state.groups;
+    let jobs = views::jobs_of(kinds, setup.resources, tasks, groups);
+    let modes = jobs.modes;
     let mut count = 0;
     for t in 0..Jobs::END {
-        if Jobs::PREEMPTABLE <= processors::mode_of(jobs, t) {
+        if Jobs::PREEMPTABLE <= processors::mode_of(&modes, t) {
             count += 1;
         }
     }

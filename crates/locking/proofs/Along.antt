@@ -74,7 +74,7 @@ module _ (s : State) (part : List ℕ) where
       record {
         given = sym (ap (λ (y : State). y .setup) h ∙ K .1);
         timed = refl;
-    totals = w;
+        totals = w;
         recorded = reads;
         placed = refl;
         naming = ap (λ (y : Tested). y .named) made;

@@ -99,7 +99,7 @@ module _ (s : State) (clock : ℕ) (ts : List Task) (gs : List Group) (p : Proce
 
   pub keeps-store : (t g : ℕ) (x : Task) (y : Group) → t < mostTasks → length (s .tasks) ≡ mostTasks
       → Keeps (put t g (totalsAs (rowOf totals t) x) y s) clock (set ts t x) (set gs g y) p totals
-          (set own t (rankBy (x .deadline) t)) (set modes t (modeIn (s .setup .kinds) x)) (set stands t (standingNo (x .standing)))
+      (set own t (rankBy (x .deadline) t)) (set modes t (modeIn (s .setup .kinds) x)) (set stands t (standingNo (x .standing)))
   keeps-store t g x y l long =
       let X = totalsAs (rowOf totals t) x in
       record {

@@ -2,10 +2,10 @@
 use crate::Played;
 use crate::acting::edited;
 use crate::acting::hand_over;
+use crate::clock::step_to;
 use crate::counting::charge;
 use crate::counting::totals_of;
 use crate::counting::with_totals;
-use crate::clock::step_to;
 use crate::judging::judge_parts;
 use crate::moving::keep;
 use crate::moving::moved;
@@ -78,7 +78,14 @@ fn play_events(state: State, tested: Tested, part: &[u8], count: usize, out: &mu
             clock = clock + (ticks as u32);
             let g = place_in(named, e.resource);
             let held = groups[g];
-            let edit = edited(kinds, tables::period_at(periods, e.task), clock, task, held, e);
+            let edit = edited(
+                kinds,
+                tables::period_at(periods, e.task),
+                clock,
+                task,
+                held,
+                e,
+            );
             let mine = edit.task;
             let group = edit.group;
             tasks[t] = mine;

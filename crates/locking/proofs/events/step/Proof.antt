@@ -35,7 +35,7 @@ array-read-t14 c = search needs
 
 -- src/events.rt:26:1
 returns : tie.Need-returns
-returns c = 
+returns c =
     let s = (c .before .before .before .before .before .before .args) .state in
     let e = (c .before .before .before .before .before .before .args) .e in
     let gave = rw ((c .before .before .before .before .before .event-bytes) .ensures) at ((c .before .before .play) .ensures) in

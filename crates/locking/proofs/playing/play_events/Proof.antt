@@ -88,8 +88,11 @@ record-read c =
     let s = reached (c .before .before .before .before) in
     let long : length (s .tasks) ≡ mostTasks = ap length (K .recorded) ∙ counted-length (o .tasks) (o .totals) in
     ⊎-elim
-    (λ w. (rowOf (o .totals) t, keeps-task s (o .clock) (o .tasks) (o .groups) (o .p) (o .totals) (o .own) (o .modes) (o .stands) K t (w .0 .taken)
-        ∙ ap (totalsAs (rowOf (o .totals) t)) (sym (w .2 ∙ task-read (o .tasks) t (omega (arith, K .few, w .0 .taken))))))
+    (λ w. (
+      rowOf (o .totals) t,
+      keeps-task s (o .clock) (o .tasks) (o .groups) (o .p) (o .totals) (o .own) (o .modes) (o .stands) K t (w .0 .taken)
+          ∙ ap (totalsAs (rowOf (o .totals) t)) (sym (w .2 ∙ task-read (o .tasks) t (omega (arith, K .few, w .0 .taken)))),
+    ))
     (λ w. (noTask .totals, List·getD-eq-default (s .tasks) noTask (omega (arith, long, w .0 .left)) ∙ ap (totalsAs (noTask .totals)) (sym (w .2 ∙ w .1 .ensures))))
     (c .if1 .came)
 
@@ -132,25 +135,19 @@ accepts c =
       stepped = c .step-to .ensures ∙ ap (λ (k : ℕ). ticksTo k (e .tick)) (o .inv .2 .timed);
     }
 
-
-
 task-is : (c : tie.Joined1 Inv-loop μ-loop) → c .before .before .event-at .result .task < mostTasks → c .if1 .task ≡ getD (c .before .before .before .before .loop .tasks) (c .before .before .event-at .result .task) noTask
 task-is c l =
     let o = c .before .before .before .before .loop in
     ⊎-elim (λ w. w .2 ∙ task-read (o .tasks) (c .before .before .event-at .result .task) (omega (arith, o .inv .2 .few, w .0 .taken))) (λ w. absurd (omega (arith, w .0 .left, l))) (c .if1 .came)
 
-
 groups-long : (c : tie.After-step-to Inv-loop μ-loop) → length ((c .before .before .before .before .before .before .before .loop) .groups) ≡ mostResources
 groups-long c = ap length ((c .before .before .before .before .before .before .before .loop) .inv .2 .grouped) ∙ accepts c .sound .steady .sized .groups
-
 
 placed-at : (c : tie.After-place-in Inv-loop μ-loop) → getD (names ((c .before .before .before .before .before .before .before .before .before .before .before .before .before .before .before .before .before .before .before .before .before .before .before .before .before) .args .state .setup)) ((c .before .before .before .before .before .before .before .before .before .event-at) .result .resource) nobody < mostResources → c .place-in .result ≡ getD (names ((c .before .before .before .before .before .before .before .before .before .before .before .before .before .before .before .before .before .before .before .before .before .before .before .before .before) .args .state .setup)) ((c .before .before .before .before .before .before .before .before .before .event-at) .result .resource) nobody
 placed-at c = subst (λ (l : List ℕ). getD l ((c .before .before .before .before .before .before .before .before .before .event-at) .result .resource) nobody < mostResources → c .place-in .result ≡ getD l ((c .before .before .before .before .before .before .before .before .before .event-at) .result .resource) nobody) (ap (λ (y : Tested). y .named) ((c .before .before .before .before .before .before .before .before .before .before .before .before .before .before .before .before .before .before .before .before .before .before .before .before .before) .pre .0)) (c .place-in .ensures .1)
 
-
 edit-is : (c : tie.After-edited Inv-loop μ-loop) → c .edited .result ≡ editing ((c .before .before .before .before .before .before .before .before .before .before .before .before .before .before .before .before .before .before .before .before .before .before .before .before .before .before .before .before) .args .state .setup .kinds) (period ((c .before .before .before .before .before .before .before .before .before .before .before .before .before .before .before .before .before .before .before .before .before .before .before .before .before .before .before .before) .args .state .setup) ((c .before .before .before .before .before .before .before .before .before .before .before .before .event-at) .result .task)) ((c .before .before .before .before .before .before .before .before .before .before .before .before .before .before .loop) .clock + (c .before .before .before .before .before .before .before .step-to) .result) (getD ((c .before .before .before .before .before .before .before .before .before .before .before .before .before .before .loop) .tasks) ((c .before .before .before .before .before .before .before .before .before .before .before .before .event-at) .result .task) noTask) (getD ((c .before .before .before .before .before .before .before .before .before .before .before .before .before .before .loop) .groups) ((c .before .before .before .place-in) .result) noGroup) ((c .before .before .before .before .before .before .before .before .before .before .before .before .event-at) .result)
 edit-is c = rw ((c .before .period-at) .ensures, task-is (c .before .before .before .before .before .before .before .before .before .before) (task-in (accepts (c .before .before .before .before .before .before .before))), group-read ((c .before .before .before .before .before .before .before .before .before .before .before .before .before .before .loop) .groups) ((c .before .before .before .place-in) .result) (omega (arith, groups-long (c .before .before .before .before .before .before .before), (c .before .before .before .place-in) .ensures .0))) at (c .edited .ensures)
-
 
 -- who is handed the group
 heir-in : (c : tie.Then3 Inv-loop μ-loop) → ((c .before .before .before .before .before .before .before .before .before .before .before .before .edited) .result .next < mostTasks) × (getD (set ((c .before .before .before .before .before .before .before .before .before .before .before .before .before .before .before .before .before .before .before .before .before .before .before .before .before .before .loop) .tasks) ((c .before .before .before .before .before .before .before .before .before .before .before .before .before .before .before .before .before .before .before .before .before .before .before .before .event-at) .result .task) ((c .before .before .before .before .before .before .before .before .before .before .before .before .edited) .result .task)) ((c .before .before .before .before .before .before .before .before .before .before .before .before .edited) .result .next) noTask .depth < mostRequests)
@@ -159,14 +156,11 @@ heir-in c = next-may (accepts (c .before .before .before .before .before .before
 heir-is : (c : tie.After-hand-over Inv-loop μ-loop) → c .hand-over .result ≡ handing (getD (set ((c .before .before .before .before .before .before .before .before .before .before .before .before .before .before .before .before .before .before .before .before .before .before .before .before .before .before .before .before .before .loop) .tasks) ((c .before .before .before .before .before .before .before .before .before .before .before .before .before .before .before .before .before .before .before .before .before .before .before .before .before .before .before .event-at) .result .task) ((c .before .before .before .before .before .before .before .before .before .before .before .before .before .before .before .edited) .result .task)) ((c .before .before .before .before .before .before .before .before .before .before .before .before .before .before .before .edited) .result .next) noTask) ((c .before .before .before .before .before .before .before .before .before .before .before .before .before .before .before .edited) .result .group) ((c .before .before .before .before .before .before .before .before .before .before .before .before .before .before .before .edited) .result .turn) ((c .before .before .before .before .before .before .before .before .before .before .before .before .before .before .before .edited) .result .next)
 heir-is c = rw (task-read (set ((c .before .before .before .before .before .before .before .before .before .before .before .before .before .before .before .before .before .before .before .before .before .before .before .before .before .before .before .before .before .loop) .tasks) ((c .before .before .before .before .before .before .before .before .before .before .before .before .before .before .before .before .before .before .before .before .before .before .before .before .before .before .before .event-at) .result .task) ((c .before .before .before .before .before .before .before .before .before .before .before .before .before .before .before .edited) .result .task)) ((c .before .before .before .before .before .before .before .before .before .before .before .before .before .before .before .edited) .result .next) (omega (arith, length-set ((c .before .before .before .before .before .before .before .before .before .before .before .before .before .before .before .before .before .before .before .before .before .before .before .before .before .before .before .before .before .loop) .tasks) ((c .before .before .before .before .before .before .before .before .before .before .before .before .before .before .before .before .before .before .before .before .before .before .before .before .before .before .before .event-at) .result .task) ((c .before .before .before .before .before .before .before .before .before .before .before .before .before .before .before .edited) .result .task), (c .before .before .before .before .before .before .before .before .before .before .before .before .before .before .before .before .before .before .before .before .before .before .before .before .before .before .before .before .before .loop) .inv .2 .few, heir-in (c .before .before .before) .0))) at (c .hand-over .ensures)
 
-
 handed-on : (c : tie.After-moved2 Inv-loop μ-loop) → Keeps (step (reached (c .before .before .before .before .before .before .before .before .before .before .before .before .before .before .before .before .before .before .before .before .before .before .before .before .before .before .before .before .before .before .before .before .before .before .before .before .before .before .before)) ((c .before .before .before .before .before .before .before .before .before .before .before .before .before .before .before .before .before .before .before .before .before .before .before .before .before .before .before .before .before .before .before .before .before .before .before .before .before .event-at) .result) .state) ((c .before .before .before .before .before .before .before .before .before .before .before .before .before .before .before .before .before .before .before .before .before .before .before .before .before .before .before .before .before .before .before .before .before .before .before .before .before .before .before .loop) .clock + (c .before .before .before .before .before .before .before .before .before .before .before .before .before .before .before .before .before .before .before .before .before .before .before .before .before .before .before .before .before .before .before .before .step-to) .result) (set (set ((c .before .before .before .before .before .before .before .before .before .before .before .before .before .before .before .before .before .before .before .before .before .before .before .before .before .before .before .before .before .before .before .before .before .before .before .before .before .before .before .loop) .tasks) ((c .before .before .before .before .before .before .before .before .before .before .before .before .before .before .before .before .before .before .before .before .before .before .before .before .before .before .before .before .before .before .before .before .before .before .before .before .before .event-at) .result .task) ((c .before .before .before .before .before .before .before .before .before .before .before .before .before .before .before .before .before .before .before .before .before .before .before .before .before .edited) .result .task)) ((c .before .before .before .before .before .before .before .before .before .before .before .before .before .before .before .before .before .before .before .before .before .before .before .before .before .edited) .result .next) ((c .before .before .before .before .before .before .before .before .before .before .hand-over) .result .task)) (set (set ((c .before .before .before .before .before .before .before .before .before .before .before .before .before .before .before .before .before .before .before .before .before .before .before .before .before .before .before .before .before .before .before .before .before .before .before .before .before .before .before .loop) .groups) ((c .before .before .before .before .before .before .before .before .before .before .before .before .before .before .before .before .before .before .before .before .before .before .before .before .before .before .before .before .place-in) .result) ((c .before .before .before .before .before .before .before .before .before .before .before .before .before .before .before .before .before .before .before .before .before .before .before .before .before .edited) .result .group)) ((c .before .before .before .before .before .before .before .before .before .before .before .before .before .before .before .before .before .before .before .before .before .before .before .before .before .before .before .before .place-in) .result) ((c .before .before .before .before .before .before .before .before .before .before .hand-over) .result .group)) ((c .moved2) .result) (chargedTo ((c .before .before .before .before .before .before .before .before .before .before .before .before .before .before .before .before .before .before .before .before .before .before .before .before .before .before .before .before .before .before .before .before .before .before .before .before .before .before .before .loop) .p) ((c .before .before .before .before .before .before .before .before .before .before .before .before .before .before .before .before .before .before .before .before .before .before .before .before .before .before .before .before .before .before .before .before .step-to) .result) ((c .before .before .before .before .before .before .before .before .before .before .before .before .before .before .before .before .before .before .before .before .before .before .before .before .before .before .before .before .before .before .before .before .before .before .before .before .before .before .before .loop) .stands) ((c .before .before .before .before .before .before .before .before .before .before .before .before .before .before .before .before .before .before .before .before .before .before .before .before .before .before .before .before .before .before .before .before .before .before .before .before .before .before .before .loop) .totals) ((c .before .before .before .before .before .before .before .before .before .before .before .before .before .before .before .before .before .before .before .before .before .before .before .before .before .before .before .before .before .before .before .before .before .before .before .before .before .before .before .before .before .before .before .before .before .before .before .before .before .before .before .before .before) .args .state .setup .tasks)) ((c .before .before .before .before .keep2) .last .0) ((c .before .before .before .before .keep2) .last .1 .0) ((c .before .before .before .before .keep2) .last .1 .1 .0)
 handed-on c = plays-on (accepts (c .before .before .before .before .before .before .before .before .before .before .before .before .before .before .before .before .before .before .before .before .before .before .before .before .before .before .before .before .before .before .before .before)) ((c .before .before .before .before .before .before .before .before .before .before .before .before .before .before .before .before .before .before .before .before .before .before .before .before .before .before .before .before .place-in) .result) ((c .before .before .before .before .before .before .before .before .before .before .before .before .before .before .before .before .before .before .before .before .before .before .before .before .before .before .before .before .place-in) .ensures .0) (placed-at (c .before .before .before .before .before .before .before .before .before .before .before .before .before .before .before .before .before .before .before .before .before .before .before .before .before .before .before .before)) ((c .before .before .before .before .before .before .before .before .before .before .before .before .before .before .before .before .before .before .before .before .before .before .before .before .before .edited) .result) (edit-is (c .before .before .before .before .before .before .before .before .before .before .before .before .before .before .before .before .before .before .before .before .before .before .before .before .before)) ((c .before .before .before .before .before .before .before .before .before .before .before .before .before .before .before .before .before .before .before .keep) .last .0) ((c .before .before .before .before .before .before .before .before .before .before .before .before .before .before .before .before .before .before .before .keep) .last .1 .0) ((c .before .before .before .before .before .before .before .before .before .before .before .before .before .before .before .before .before .before .before .keep) .last .1 .1 .0) ((c .before .before .before .before .before .before .before .before .before .before .before .before .before .before .before .before .before .before .before .keep) .ensures .0) ((c .before .before .before .before .before .before .before .before .before .before .before .before .before .before .before .before .before .before .before .keep) .ensures .1) ((c .before .before .before .before .before .before .before .before .before .before .before .before .before .before .before .before .before .before .before .keep) .ensures .2) ((c .before .before .before .before .before .before .before .before .before .before .before .before .before .before .before .moved) .result) ((c .before .before .before .before .before .before .before .before .before .before .before .before .before .before .before .moved) .ensures) ((c .before .before .before .before .before .before .before .before .before .before .before .before .before .if3) .taken) ((c .before .before .before .before .before .before .before .before .before .before .hand-over) .result) (heir-is (c .before .before .before .before .before .before .before .before .before .before)) ((c .before .before .before .before .keep2) .last .0) ((c .before .before .before .before .keep2) .last .1 .0) ((c .before .before .before .before .keep2) .last .1 .1 .0) ((c .before .before .before .before .keep2) .ensures .0) ((c .before .before .before .before .keep2) .ensures .1) ((c .before .before .before .before .keep2) .ensures .2) ((c .moved2) .result) ((c .moved2) .ensures)
 
-
 ended-on : (c : tie.Else3 Inv-loop μ-loop) → Keeps (step (reached (c .before .before .before .before .before .before .before .before .before .before .before .before .before .before .before .before .before .before .before .before .before .before .before .before .before .before)) ((c .before .before .before .before .before .before .before .before .before .before .before .before .before .before .before .before .before .before .before .before .before .before .before .before .event-at) .result) .state) ((c .before .before .before .before .before .before .before .before .before .before .before .before .before .before .before .before .before .before .before .before .before .before .before .before .before .before .loop) .clock + (c .before .before .before .before .before .before .before .before .before .before .before .before .before .before .before .before .before .before .before .step-to) .result) (set ((c .before .before .before .before .before .before .before .before .before .before .before .before .before .before .before .before .before .before .before .before .before .before .before .before .before .before .loop) .tasks) ((c .before .before .before .before .before .before .before .before .before .before .before .before .before .before .before .before .before .before .before .before .before .before .before .before .event-at) .result .task) ((c .before .before .before .before .before .before .before .before .before .before .before .before .edited) .result .task)) (set ((c .before .before .before .before .before .before .before .before .before .before .before .before .before .before .before .before .before .before .before .before .before .before .before .before .before .before .loop) .groups) ((c .before .before .before .before .before .before .before .before .before .before .before .before .before .before .before .place-in) .result) ((c .before .before .before .before .before .before .before .before .before .before .before .before .edited) .result .group)) ((c .before .before .moved) .result) (chargedTo ((c .before .before .before .before .before .before .before .before .before .before .before .before .before .before .before .before .before .before .before .before .before .before .before .before .before .before .loop) .p) ((c .before .before .before .before .before .before .before .before .before .before .before .before .before .before .before .before .before .before .before .step-to) .result) ((c .before .before .before .before .before .before .before .before .before .before .before .before .before .before .before .before .before .before .before .before .before .before .before .before .before .before .loop) .stands) ((c .before .before .before .before .before .before .before .before .before .before .before .before .before .before .before .before .before .before .before .before .before .before .before .before .before .before .loop) .totals) ((c .before .before .before .before .before .before .before .before .before .before .before .before .before .before .before .before .before .before .before .before .before .before .before .before .before .before .before .before .before .before .before .before .before .before .before .before .before .before .before .before) .args .state .setup .tasks)) ((c .before .before .before .before .before .before .keep) .last .0) ((c .before .before .before .before .before .before .keep) .last .1 .0) ((c .before .before .before .before .before .before .keep) .last .1 .1 .0)
 ended-on c = plays (accepts (c .before .before .before .before .before .before .before .before .before .before .before .before .before .before .before .before .before .before .before)) ((c .before .before .before .before .before .before .before .before .before .before .before .before .before .before .before .place-in) .result) ((c .before .before .before .before .before .before .before .before .before .before .before .before .before .before .before .place-in) .ensures .0) (placed-at (c .before .before .before .before .before .before .before .before .before .before .before .before .before .before .before)) ((c .before .before .before .before .before .before .before .before .before .before .before .before .edited) .result) (edit-is (c .before .before .before .before .before .before .before .before .before .before .before .before)) ((c .before .before .before .before .before .before .keep) .last .0) ((c .before .before .before .before .before .before .keep) .last .1 .0) ((c .before .before .before .before .before .before .keep) .last .1 .1 .0) ((c .before .before .before .before .before .before .keep) .ensures .0) ((c .before .before .before .before .before .before .keep) .ensures .1) ((c .before .before .before .before .before .before .keep) .ensures .2) ((c .before .before .moved) .result) ((c .before .before .moved) .ensures) ((c .if3) .left)
-
 
 kept-long : (l l′ : List ℕ) (t x : ℕ) → l′ ≡ set l t x → length l ≡ mostTasks → mostTasks ≡ length l′
 kept-long l l′ t x h long = sym (ap length h ∙ length-set l t x ∙ long)
@@ -327,7 +321,7 @@ loop-less : tie.Need-loop-less Inv-loop μ-loop
 loop-less c = search (needs, (c .before .before .before .before .before .before .before .before .before .before .loop-test) .taken)
 
 loop-again : tie.Need-loop-again Inv-loop μ-loop
-loop-again c = 
+loop-again c =
     let o = (c .before .before .before .before .before .before .before .before .before .before .before .loop) in
     let s = reached (c .before .before .before .before .before .before .before .before .before .before .before) in
     let e = (c .before .before .before .before .before .before .before .before .before .event-at) .result in
