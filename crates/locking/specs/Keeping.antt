@@ -3,16 +3,32 @@
 use Prim.Native.Nat.{ℕ}
 use mathlib.Core.Path.{_≡_}
 use mathlib.Core.List.{List}
-use lib.ListN.{length}
+use lib.ListN.{length, getD, set}
 use Rattle.search.specs.Table.{table}
 use Rattle.processors.specs.declared.Processors.{Processors}
 use Rattle.input.specs.Limits.{mostTasks}
-use Rattle.protocol.specs.Words.{standingNo, task}
+use Rattle.protocol.specs.Words.{noTask, standingNo, task}
 use Rattle.protocol.specs.declared.Task.{Task}
 use Rattle.protocol.specs.declared.Group.{Group}
 use Rattle.protocol.specs.declared.State.{State}
 use Rattle.views.specs.Bounds.{rankBy, modeIn}
+use Rattle.locking.specs.declared.moving.Kept.{Kept}
 use Rattle.locking.specs.Totals.{allTotals, counted}
+
+-- the three numbers of each record, and of one that task t has anew
+abbrev pub keptIn : List ℕ → List Task → Kept
+keptIn kinds tasks = record {
+  own = table (λ t. rankBy (getD tasks t noTask .deadline) t) mostTasks;
+  modes = table (λ t. modeIn kinds (getD tasks t noTask)) mostTasks;
+  stands = table (λ t. standingNo (getD tasks t noTask .standing)) mostTasks;
+}
+
+abbrev pub keptWith : List ℕ → ℕ → Task → Kept → Kept
+keptWith kinds t x k = record {
+  own = set (k .own) t (rankBy (x .deadline) t);
+  modes = set (k .modes) t (modeIn kinds x);
+  stands = set (k .stands) t (standingNo (x .standing));
+}
 
 -- a number of each task's record
 abbrev pub byTask : (ℕ → Task → ℕ) → State → List ℕ

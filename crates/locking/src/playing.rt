@@ -8,6 +8,7 @@ use crate::counting::totals_of;
 use crate::counting::with_totals;
 use crate::judging::judge_parts;
 use crate::moving::keep;
+use crate::moving::kept_of;
 use crate::moving::moved;
 use input::SetUp;
 use protocol::Reply;
@@ -52,16 +53,13 @@ fn play_events(state: State, tested: Tested, part: &[u8], count: usize, out: &mu
 {
     let setup = state.setup;
     let kinds = setup.kinds;
-    let periods = setup.periods;
     let named = tested.named;
     let mut clock = state.clock;
     let mut tasks = state.tasks;
     let mut groups = state.groups;
     let mut p = state.processors;
     let mut totals = totals_of(tasks);
-    let mut own = views::own_ranks(tasks);
-    let mut modes = views::modes_of(kinds, tasks);
-    let mut stands = states::stands_of(tasks);
+    let mut kept = kept_of(kinds, tasks);
     let mut at = 0;
     for i in 0..count {
         let e = input::event_at(part, i);
@@ -74,24 +72,19 @@ fn play_events(state: State, tested: Tested, part: &[u8], count: usize, out: &mu
         let answer = judge_parts(setup, clock, task, p, named, tested.passes, e);
         if answer == 0 {
             let ticks = step_to(clock, e.tick);
+            let stands = kept.stands;
             charge(&mut totals, stands, p, setup.tasks, ticks);
             clock = clock + (ticks as u32);
             let g = place_in(named, e.resource);
             let held = groups[g];
-            let edit = edited(
-                kinds,
-                tables::period_at(periods, e.task),
-                clock,
-                task,
-                held,
-                e,
-            );
+            let edit = edited(kinds, setup.periods[t], clock, task, held, e);
             let mine = edit.task;
             let group = edit.group;
             tasks[t] = mine;
             groups[g] = group;
-            keep(&mut own, &mut modes, &mut stands, kinds, mine, e.task);
-            p = moved(edit.turn, p, own, modes, setup, groups, e.task);
+            let followed = keep(kept, kinds, mine, e.task);
+            kept = followed;
+            p = moved(edit.turn, p, kept, setup, groups, e.task);
             if edit.next != Task::NOTHING {
                 let u = edit.next as usize;
                 let waits = tasks[u];
@@ -100,8 +93,9 @@ fn play_events(state: State, tested: Tested, part: &[u8], count: usize, out: &mu
                 let line = given.group;
                 tasks[u] = heir;
                 groups[g] = line;
-                keep(&mut own, &mut modes, &mut stands, kinds, heir, edit.next);
-                p = moved(given.turn, p, own, modes, setup, groups, edit.next);
+                let inherited = keep(kept, kinds, heir, edit.next);
+                kept = inherited;
+                p = moved(given.turn, p, kept, setup, groups, edit.next);
             }
         }
         at = put_line(out, at, states::line_of(answer, p));

@@ -13,27 +13,21 @@ use Rattle.locking.proofs.events.step.Lts as lts
 use Rattle.input.proofs.event_bytes.Reads as event-bytes-reads
 use Rattle.locking.proofs.playing.play.Reads as play-reads
 
--- src/events.rt:29:16
 event-bytes-requires : tie.Need-event-bytes-requires
 event-bytes-requires c κs = search needs
 
--- src/events.rt:31:30
 slice-aggregate-play : tie.Need-slice-aggregate-play
 slice-aggregate-play c = search needs
 
--- src/events.rt:31:37
 slice-aggregate-play-2 : tie.Need-slice-aggregate-play-2
 slice-aggregate-play-2 c = search needs
 
--- src/events.rt:31:9
 play-requires : tie.Need-play-requires
 play-requires c κs = search needs
 
--- src/events.rt:34:17
 array-read-t14 : tie.Need-array-read-t14
 array-read-t14 c = search needs
 
--- src/events.rt:26:1
 returns : tie.Need-returns
 returns c =
     let s = (c .before .before .before .before .before .before .args) .state in

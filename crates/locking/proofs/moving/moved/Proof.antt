@@ -13,49 +13,38 @@ use Rattle.scheduler.proofs.give_way.Reads as give-way-reads
 use Rattle.scheduler.proofs.leave.Reads as leave-reads
 use Rattle.views.proofs.ranks_of.Reads as ranks-of-reads
 
--- src/moving.rt:72:9
 returns : tie.Need-returns
 returns c = rw ((c .if1) .taken)
 
--- src/moving.rt:75:9
 become-preemptable-requires : tie.Need-become-preemptable-requires
 become-preemptable-requires c κs = search needs
 
--- src/moving.rt:75:9
 returns-2 : tie.Need-returns-2
 returns-2 c = rw ((c .before .if2) .taken) ((c .become-preemptable) .ensures)
 
--- src/moving.rt:78:17
 ranks-of-requires : tie.Need-ranks-of-requires
 ranks-of-requires c κs = search needs
 
--- src/moving.rt:80:9
 arrive-requires : tie.Need-arrive-requires
 arrive-requires c κs = search needs
 
--- src/moving.rt:82:9
 leave-requires : tie.Need-leave-requires
 leave-requires c κs = search needs
 
--- src/moving.rt:84:9
 give-way-requires : tie.Need-give-way-requires
 give-way-requires c κs = search needs
 
--- src/moving.rt:58:1
 returns-3 : tie.Need-returns-3
 returns-3 c = rw ((c .before .before .before .if3) .taken) (rw ((c .before .before .before .before .ranks-of) .ensures) at ((c .arrive) .ensures))
 
--- src/moving.rt:58:1
 returns-4 : tie.Need-returns-4
-returns-4 c = rw ((c .before .before .before .if4) .taken) (rw ((c .before .before .before .before .before .ranks-of) .ensures, ((c .before .before .before .before .before .before .before .before .before) .pre) (inl ((c .before .before .before .if4) .taken))) at ((c .leave) .ensures))
+returns-4 c = rw ((c .before .before .before .if4) .taken) (rw ((c .before .before .before .before .before .ranks-of) .ensures, ((c .before .before .before .before .before .before .before .before .before .before .before) .pre) (inl ((c .before .before .before .if4) .taken))) at ((c .leave) .ensures))
 
--- src/moving.rt:58:1
 returns-5 : tie.Need-returns-5
-returns-5 c = rw ((c .before .before .before .if5) .taken) (rw ((c .before .before .before .before .before .before .ranks-of) .ensures, ((c .before .before .before .before .before .before .before .before .before .before) .pre) (inr ((c .before .before .before .if5) .taken))) at ((c .give-way) .ensures))
+returns-5 c = rw ((c .before .before .before .if5) .taken) (rw ((c .before .before .before .before .before .before .ranks-of) .ensures, ((c .before .before .before .before .before .before .before .before .before .before .before .before) .pre) (inr ((c .before .before .before .if5) .taken))) at ((c .give-way) .ensures))
 
--- src/moving.rt:58:1
 returns-6 : tie.Need-returns-6
-returns-6 c = rw (ne-eqb _ _ ((c .before .before .if3) .left), ne-eqb _ _ ((c .before .if4) .left), ne-eqb _ _ ((c .if5) .left), ne-eqb _ _ ((c .before .before .before .before .before .if2) .left))
+returns-6 c = rw (ne-eqb _ _ ((c .before .before .if3) .left), ne-eqb _ _ ((c .before .if4) .left), ne-eqb _ _ ((c .if5) .left), ne-eqb _ _ ((c .before .before .before .before .before .before .before .if2) .left))
 
 pub moved-spec : {M : Type 1} → statement M
 moved-spec =

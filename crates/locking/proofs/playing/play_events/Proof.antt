@@ -31,6 +31,7 @@ use Rattle.locking.specs.Edits.{editing, handing}
 use Rattle.locking.specs.Keeping.{Keeps}
 use Rattle.locking.specs.Playing.{playedTo, writtenTo}
 use Rattle.locking.specs.Steps.{HasParts}
+use Rattle.locking.specs.declared.moving.Kept.{Kept}
 use Rattle.locking.specs.Totals.{rowOf, totalsAs, chargedTo}
 use Rattle.locking.proofs.Accepted.{step-answer, refused-stays, accepted-sound}
 use Rattle.locking.proofs.Accepting.{Accepts, few-tasks, clock-room, can-charge, task-in, may-edit, may-move, plays, next-may, next-moves, plays-on}
@@ -51,33 +52,31 @@ use Rattle.locking.proofs.counting.totals_of.Reads as totals-of-reads
 use Rattle.locking.proofs.counting.with_totals.Reads as with-totals-reads
 use Rattle.locking.proofs.judging.judge_parts.Reads as judge-parts-reads
 use Rattle.locking.proofs.moving.keep.Reads as keep-reads
+use Rattle.locking.proofs.moving.kept_of.Reads as kept-of-reads
 use Rattle.locking.proofs.moving.moved.Reads as moved-reads
 use Rattle.locking.proofs.playing.place_in.Reads as place-in-reads
 use Rattle.locking.proofs.playing.put_line.Reads as put-line-reads
-use Rattle.states.proofs.stands_of.Reads as stands-of-reads
 use Rattle.states.proofs.line_of.Reads as line-of-reads
-use Rattle.tables.proofs.period_at.Reads as period-at-reads
 use Rattle.tables.proofs.no_task.Reads as no-task-reads
-use Rattle.views.proofs.modes_of.Reads as modes-of-reads
-use Rattle.views.proofs.own_ranks.Reads as own-ranks-reads
 
 -- the state that the parts were taken from, and the one after the events so far
 abbrev begun : SetUp → ℕ → List Task → List Group → Processors → State
 begun setup clock tasks groups p = record { setup = setup; clock = clock; tasks = tasks; groups = groups; processors = p }
 
 abbrev Inv-loop : tie.InvT-loop
-Inv-loop tested part count out₀ setup kinds periods named clock₀ tasks₀ groups₀ p₀ totals₀ own₀ modes₀ stands₀ at₀ i₀ out clock tasks groups p totals own modes stands at i =
-    (i ≤ count) × (at ≡ lineSize * i) × Keeps (playedTo (begun setup clock₀ tasks₀ groups₀ p₀) part i) clock tasks groups p totals own modes stands
+Inv-loop tested part count out₀ setup kinds named clock₀ tasks₀ groups₀ p₀ totals₀ kept₀ at₀ i₀ out clock tasks groups p totals kept at i =
+    (i ≤ count) × (at ≡ lineSize * i)
+    × Keeps (playedTo (begun setup clock₀ tasks₀ groups₀ p₀) part i) clock tasks groups p totals (kept .own) (kept .modes) (kept .stands)
     × (out ≡ writtenTo (begun setup clock₀ tasks₀ groups₀ p₀) part out₀ i)
 
 abbrev μ-loop : tie.MeasureT-loop
-μ-loop tested part count out₀ setup kinds periods named clock₀ tasks₀ groups₀ p₀ totals₀ own₀ modes₀ stands₀ at₀ i₀ out clock tasks groups p totals own modes stands at i = count - i
+μ-loop tested part count out₀ setup kinds named clock₀ tasks₀ groups₀ p₀ totals₀ kept₀ at₀ i₀ out clock tasks groups p totals kept at i = count - i
 
 abbrev reached : tie.At-loop Inv-loop μ-loop → State
-reached c = playedTo ((c .before .before .before .before .before .before .before .before .before .before .before .before .before .before) .args .state) ((c .before .before .before .before .before .before .before .before .before .before .before .before .before .before) .args .part .now) (c .loop .i)
+reached c = playedTo ((c .before .before .before .before .before .before .before .before .before .before .before) .args .state) ((c .before .before .before .before .before .before .before .before .before .before .before) .args .part .now) (c .loop .i)
 
-whole : (c : tie.At-loop Inv-loop μ-loop) → Shaped ((c .before .before .before .before .before .before .before .before .before .before .before .before .before .before) .args .state)
-whole c = shaped _ _ ((c .before .before .before .before .before .before .before .before .before .before .before .before .before .before) .good .0)
+whole : (c : tie.At-loop Inv-loop μ-loop) → Shaped ((c .before .before .before .before .before .before .before .before .before .before .before) .args .state)
+whole c = shaped _ _ ((c .before .before .before .before .before .before .before .before .before .before .before) .good .0)
 
 -- the record read is that of the event's task, but for its totals
 record-read : (c : tie.Joined1 Inv-loop μ-loop) → (w : List ℕ) × (task (reached (c .before .before .before .before)) (c .before .before .event-at .result .task) ≡ totalsAs w (c .if1 .task))
@@ -90,7 +89,7 @@ record-read c =
     ⊎-elim
     (λ w. (
       rowOf (o .totals) t,
-      keeps-task s (o .clock) (o .tasks) (o .groups) (o .p) (o .totals) (o .own) (o .modes) (o .stands) K t (w .0 .taken)
+      keeps-task s (o .clock) (o .tasks) (o .groups) (o .p) (o .totals) (o .kept .own) (o .kept .modes) (o .kept .stands) K t (w .0 .taken)
           ∙ ap (totalsAs (rowOf (o .totals) t)) (sym (w .2 ∙ task-read (o .tasks) t (omega (arith, K .few, w .0 .taken)))),
     ))
     (λ w. (noTask .totals, List·getD-eq-default (s .tasks) noTask (omega (arith, long, w .0 .left)) ∙ ap (totalsAs (noTask .totals)) (sym (w .2 ∙ w .1 .ensures))))
@@ -98,10 +97,10 @@ record-read c =
 
 -- what the answer is made of
 has-parts : (c : tie.After-judge-parts Inv-loop μ-loop)
-    → HasParts (reached (c .before .before .before .before .before)) ((c .before .before .before .before .before .before .before .before .before .before .before .before .before .before .before .before .before .before .before) .args .state .setup) (c .before .before .before .before .before .loop .clock) (c .before .if1 .task) (c .before .before .before .before .before .loop .p) ((c .before .before .before .before .before .before .before .before .before .before .before .before .before .before .before .before .before .before .before) .args .tested .named) ((c .before .before .before .before .before .before .before .before .before .before .before .before .before .before .before .before .before .before .before) .args .tested .passes) (c .before .before .before .event-at .result)
+    → HasParts (reached (c .before .before .before .before .before)) ((c .before .before .before .before .before .before .before .before .before .before .before .before .before .before .before .before) .args .state .setup) (c .before .before .before .before .before .loop .clock) (c .before .if1 .task) (c .before .before .before .before .before .loop .p) ((c .before .before .before .before .before .before .before .before .before .before .before .before .before .before .before .before) .args .tested .named) ((c .before .before .before .before .before .before .before .before .before .before .before .before .before .before .before .before) .args .tested .passes) (c .before .before .before .event-at .result)
 has-parts c =
     let o = c .before .before .before .before .before .loop in
-    let start = (c .before .before .before .before .before .before .before .before .before .before .before .before .before .before .before .before .before .before .before) in
+    let start = (c .before .before .before .before .before .before .before .before .before .before .before .before .before .before .before .before) in
     let kept = kept-along (start .args .state) (start .args .part .now) (whole (c .before .before .before .before .before)) (o .i) in
     let read = record-read (c .before) in
     record {
@@ -117,10 +116,10 @@ has-parts c =
 -- an accepted event of a sound state
 accepts : (c : tie.After-step-to Inv-loop μ-loop)
     → let o = c .before .before .before .before .before .before .before .loop in
-    Accepts (reached (c .before .before .before .before .before .before .before)) (c .before .before .before .before .before .event-at .result) ((c .before .before .before .before .before .before .before .before .before .before .before .before .before .before .before .before .before .before .before .before .before) .args .state .setup) (o .clock) (o .tasks) (o .groups) (o .p) (o .totals) (o .own) (o .modes) (o .stands) (c .step-to .result)
+    Accepts (reached (c .before .before .before .before .before .before .before)) (c .before .before .before .before .before .event-at .result) ((c .before .before .before .before .before .before .before .before .before .before .before .before .before .before .before .before .before .before) .args .state .setup) (o .clock) (o .tasks) (o .groups) (o .p) (o .totals) (o .kept .own) (o .kept .modes) (o .kept .stands) (c .step-to .result)
 accepts c =
     let o = c .before .before .before .before .before .before .before .loop in
-    let start = (c .before .before .before .before .before .before .before .before .before .before .before .before .before .before .before .before .before .before .before .before .before) in
+    let start = (c .before .before .before .before .before .before .before .before .before .before .before .before .before .before .before .before .before .before) in
     let s = reached (c .before .before .before .before .before .before .before) in
     let e = c .before .before .before .before .before .event-at .result in
     let Z = whole (c .before .before .before .before .before .before .before) in
@@ -143,56 +142,47 @@ task-is c l =
 groups-long : (c : tie.After-step-to Inv-loop μ-loop) → length ((c .before .before .before .before .before .before .before .loop) .groups) ≡ mostResources
 groups-long c = ap length ((c .before .before .before .before .before .before .before .loop) .inv .2 .grouped) ∙ accepts c .sound .steady .sized .groups
 
-placed-at : (c : tie.After-place-in Inv-loop μ-loop) → getD (names ((c .before .before .before .before .before .before .before .before .before .before .before .before .before .before .before .before .before .before .before .before .before .before .before .before .before) .args .state .setup)) ((c .before .before .before .before .before .before .before .before .before .event-at) .result .resource) nobody < mostResources → c .place-in .result ≡ getD (names ((c .before .before .before .before .before .before .before .before .before .before .before .before .before .before .before .before .before .before .before .before .before .before .before .before .before) .args .state .setup)) ((c .before .before .before .before .before .before .before .before .before .event-at) .result .resource) nobody
-placed-at c = subst (λ (l : List ℕ). getD l ((c .before .before .before .before .before .before .before .before .before .event-at) .result .resource) nobody < mostResources → c .place-in .result ≡ getD l ((c .before .before .before .before .before .before .before .before .before .event-at) .result .resource) nobody) (ap (λ (y : Tested). y .named) ((c .before .before .before .before .before .before .before .before .before .before .before .before .before .before .before .before .before .before .before .before .before .before .before .before .before) .pre .0)) (c .place-in .ensures .1)
+placed-at : (c : tie.After-place-in Inv-loop μ-loop) → getD (names ((c .before .before .before .before .before .before .before .before .before .before .before .before .before .before .before .before .before .before .before .before .before .before .before) .args .state .setup)) ((c .before .before .before .before .before .before .before .before .before .before .event-at) .result .resource) nobody < mostResources → c .place-in .result ≡ getD (names ((c .before .before .before .before .before .before .before .before .before .before .before .before .before .before .before .before .before .before .before .before .before .before .before) .args .state .setup)) ((c .before .before .before .before .before .before .before .before .before .before .event-at) .result .resource) nobody
+placed-at c = subst (λ (l : List ℕ). getD l ((c .before .before .before .before .before .before .before .before .before .before .event-at) .result .resource) nobody < mostResources → c .place-in .result ≡ getD l ((c .before .before .before .before .before .before .before .before .before .before .event-at) .result .resource) nobody) (ap (λ (y : Tested). y .named) ((c .before .before .before .before .before .before .before .before .before .before .before .before .before .before .before .before .before .before .before .before .before .before .before) .pre .0)) (c .place-in .ensures .1)
 
-edit-is : (c : tie.After-edited Inv-loop μ-loop) → c .edited .result ≡ editing ((c .before .before .before .before .before .before .before .before .before .before .before .before .before .before .before .before .before .before .before .before .before .before .before .before .before .before .before .before) .args .state .setup .kinds) (period ((c .before .before .before .before .before .before .before .before .before .before .before .before .before .before .before .before .before .before .before .before .before .before .before .before .before .before .before .before) .args .state .setup) ((c .before .before .before .before .before .before .before .before .before .before .before .before .event-at) .result .task)) ((c .before .before .before .before .before .before .before .before .before .before .before .before .before .before .loop) .clock + (c .before .before .before .before .before .before .before .step-to) .result) (getD ((c .before .before .before .before .before .before .before .before .before .before .before .before .before .before .loop) .tasks) ((c .before .before .before .before .before .before .before .before .before .before .before .before .event-at) .result .task) noTask) (getD ((c .before .before .before .before .before .before .before .before .before .before .before .before .before .before .loop) .groups) ((c .before .before .before .place-in) .result) noGroup) ((c .before .before .before .before .before .before .before .before .before .before .before .before .event-at) .result)
-edit-is c = rw ((c .before .period-at) .ensures, task-is (c .before .before .before .before .before .before .before .before .before .before) (task-in (accepts (c .before .before .before .before .before .before .before))), group-read ((c .before .before .before .before .before .before .before .before .before .before .before .before .before .before .loop) .groups) ((c .before .before .before .place-in) .result) (omega (arith, groups-long (c .before .before .before .before .before .before .before), (c .before .before .before .place-in) .ensures .0))) at (c .edited .ensures)
+edit-is : (c : tie.After-edited Inv-loop μ-loop) → c .edited .result ≡ editing ((c .before .before .before .before .before .before .before .before .before .before .before .before .before .before .before .before .before .before .before .before .before .before .before .before .before .before) .args .state .setup .kinds) (period ((c .before .before .before .before .before .before .before .before .before .before .before .before .before .before .before .before .before .before .before .before .before .before .before .before .before .before) .args .state .setup) ((c .before .before .before .before .before .before .before .before .before .before .before .before .before .event-at) .result .task)) ((c .before .before .before .before .before .before .before .before .before .before .before .before .before .before .before .loop) .clock + (c .before .before .before .before .before .before .before .before .step-to) .result) (getD ((c .before .before .before .before .before .before .before .before .before .before .before .before .before .before .before .loop) .tasks) ((c .before .before .before .before .before .before .before .before .before .before .before .before .before .event-at) .result .task) noTask) (getD ((c .before .before .before .before .before .before .before .before .before .before .before .before .before .before .before .loop) .groups) ((c .before .before .before .place-in) .result) noGroup) ((c .before .before .before .before .before .before .before .before .before .before .before .before .before .event-at) .result)
+edit-is c = rw (task-is (c .before .before .before .before .before .before .before .before .before .before .before) (task-in (accepts (c .before .before .before .before .before .before .before .before))), group-read ((c .before .before .before .before .before .before .before .before .before .before .before .before .before .before .before .loop) .groups) ((c .before .before .before .place-in) .result) (omega (arith, groups-long (c .before .before .before .before .before .before .before .before), (c .before .before .before .place-in) .ensures .0))) at (c .edited .ensures)
 
 -- who is handed the group
-heir-in : (c : tie.Then3 Inv-loop μ-loop) → ((c .before .before .before .before .before .before .before .before .before .before .before .before .edited) .result .next < mostTasks) × (getD (set ((c .before .before .before .before .before .before .before .before .before .before .before .before .before .before .before .before .before .before .before .before .before .before .before .before .before .before .loop) .tasks) ((c .before .before .before .before .before .before .before .before .before .before .before .before .before .before .before .before .before .before .before .before .before .before .before .before .event-at) .result .task) ((c .before .before .before .before .before .before .before .before .before .before .before .before .edited) .result .task)) ((c .before .before .before .before .before .before .before .before .before .before .before .before .edited) .result .next) noTask .depth < mostRequests)
-heir-in c = next-may (accepts (c .before .before .before .before .before .before .before .before .before .before .before .before .before .before .before .before .before .before .before)) ((c .before .before .before .before .before .before .before .before .before .before .before .before .before .before .before .place-in) .result) ((c .before .before .before .before .before .before .before .before .before .before .before .before .before .before .before .place-in) .ensures .0) (placed-at (c .before .before .before .before .before .before .before .before .before .before .before .before .before .before .before)) ((c .before .before .before .before .before .before .before .before .before .before .before .before .edited) .result) (edit-is (c .before .before .before .before .before .before .before .before .before .before .before .before)) ((c .before .before .before .before .before .before .keep) .last .0) ((c .before .before .before .before .before .before .keep) .last .1 .0) ((c .before .before .before .before .before .before .keep) .last .1 .1 .0) ((c .before .before .before .before .before .before .keep) .ensures .0) ((c .before .before .before .before .before .before .keep) .ensures .1) ((c .before .before .before .before .before .before .keep) .ensures .2) ((c .before .before .moved) .result) ((c .before .before .moved) .ensures) ((c .if3) .taken)
+heir-in : (c : tie.Then3 Inv-loop μ-loop) → ((c .before .before .before .before .before .before .edited) .result .next < mostTasks) × (getD (set ((c .before .before .before .before .before .before .before .before .before .before .before .before .before .before .before .before .before .before .before .before .before .loop) .tasks) ((c .before .before .before .before .before .before .before .before .before .before .before .before .before .before .before .before .before .before .before .event-at) .result .task) ((c .before .before .before .before .before .before .edited) .result .task)) ((c .before .before .before .before .before .before .edited) .result .next) noTask .depth < mostRequests)
+heir-in c = next-may (accepts (c .before .before .before .before .before .before .before .before .before .before .before .before .before .before)) ((c .before .before .before .before .before .before .before .before .before .place-in) .result) ((c .before .before .before .before .before .before .before .before .before .place-in) .ensures .0) (placed-at (c .before .before .before .before .before .before .before .before .before)) ((c .before .before .before .before .before .before .edited) .result) (edit-is (c .before .before .before .before .before .before)) ((c .before .before .before .keep) .result .own) ((c .before .before .before .keep) .result .modes) ((c .before .before .before .keep) .result .stands) (ap (λ (k : Kept). k .own) ((c .before .before .before .keep) .ensures)) (ap (λ (k : Kept). k .modes) ((c .before .before .before .keep) .ensures)) (ap (λ (k : Kept). k .stands) ((c .before .before .before .keep) .ensures)) ((c .before .before .moved) .result) ((c .before .before .moved) .ensures) ((c .if3) .taken)
 
-heir-is : (c : tie.After-hand-over Inv-loop μ-loop) → c .hand-over .result ≡ handing (getD (set ((c .before .before .before .before .before .before .before .before .before .before .before .before .before .before .before .before .before .before .before .before .before .before .before .before .before .before .before .before .before .loop) .tasks) ((c .before .before .before .before .before .before .before .before .before .before .before .before .before .before .before .before .before .before .before .before .before .before .before .before .before .before .before .event-at) .result .task) ((c .before .before .before .before .before .before .before .before .before .before .before .before .before .before .before .edited) .result .task)) ((c .before .before .before .before .before .before .before .before .before .before .before .before .before .before .before .edited) .result .next) noTask) ((c .before .before .before .before .before .before .before .before .before .before .before .before .before .before .before .edited) .result .group) ((c .before .before .before .before .before .before .before .before .before .before .before .before .before .before .before .edited) .result .turn) ((c .before .before .before .before .before .before .before .before .before .before .before .before .before .before .before .edited) .result .next)
-heir-is c = rw (task-read (set ((c .before .before .before .before .before .before .before .before .before .before .before .before .before .before .before .before .before .before .before .before .before .before .before .before .before .before .before .before .before .loop) .tasks) ((c .before .before .before .before .before .before .before .before .before .before .before .before .before .before .before .before .before .before .before .before .before .before .before .before .before .before .before .event-at) .result .task) ((c .before .before .before .before .before .before .before .before .before .before .before .before .before .before .before .edited) .result .task)) ((c .before .before .before .before .before .before .before .before .before .before .before .before .before .before .before .edited) .result .next) (omega (arith, length-set ((c .before .before .before .before .before .before .before .before .before .before .before .before .before .before .before .before .before .before .before .before .before .before .before .before .before .before .before .before .before .loop) .tasks) ((c .before .before .before .before .before .before .before .before .before .before .before .before .before .before .before .before .before .before .before .before .before .before .before .before .before .before .before .event-at) .result .task) ((c .before .before .before .before .before .before .before .before .before .before .before .before .before .before .before .edited) .result .task), (c .before .before .before .before .before .before .before .before .before .before .before .before .before .before .before .before .before .before .before .before .before .before .before .before .before .before .before .before .before .loop) .inv .2 .few, heir-in (c .before .before .before) .0))) at (c .hand-over .ensures)
+heir-is : (c : tie.After-hand-over Inv-loop μ-loop) → c .hand-over .result ≡ handing (getD (set ((c .before .before .before .before .before .before .before .before .before .before .before .before .before .before .before .before .before .before .before .before .before .before .before .before .loop) .tasks) ((c .before .before .before .before .before .before .before .before .before .before .before .before .before .before .before .before .before .before .before .before .before .before .event-at) .result .task) ((c .before .before .before .before .before .before .before .before .before .edited) .result .task)) ((c .before .before .before .before .before .before .before .before .before .edited) .result .next) noTask) ((c .before .before .before .before .before .before .before .before .before .edited) .result .group) ((c .before .before .before .before .before .before .before .before .before .edited) .result .turn) ((c .before .before .before .before .before .before .before .before .before .edited) .result .next)
+heir-is c = rw (task-read (set ((c .before .before .before .before .before .before .before .before .before .before .before .before .before .before .before .before .before .before .before .before .before .before .before .before .loop) .tasks) ((c .before .before .before .before .before .before .before .before .before .before .before .before .before .before .before .before .before .before .before .before .before .before .event-at) .result .task) ((c .before .before .before .before .before .before .before .before .before .edited) .result .task)) ((c .before .before .before .before .before .before .before .before .before .edited) .result .next) (omega (arith, length-set ((c .before .before .before .before .before .before .before .before .before .before .before .before .before .before .before .before .before .before .before .before .before .before .before .before .loop) .tasks) ((c .before .before .before .before .before .before .before .before .before .before .before .before .before .before .before .before .before .before .before .before .before .before .event-at) .result .task) ((c .before .before .before .before .before .before .before .before .before .edited) .result .task), (c .before .before .before .before .before .before .before .before .before .before .before .before .before .before .before .before .before .before .before .before .before .before .before .before .loop) .inv .2 .few, heir-in (c .before .before .before) .0))) at (c .hand-over .ensures)
 
-handed-on : (c : tie.After-moved2 Inv-loop μ-loop) → Keeps (step (reached (c .before .before .before .before .before .before .before .before .before .before .before .before .before .before .before .before .before .before .before .before .before .before .before .before .before .before .before .before .before .before .before .before .before .before .before .before .before .before .before)) ((c .before .before .before .before .before .before .before .before .before .before .before .before .before .before .before .before .before .before .before .before .before .before .before .before .before .before .before .before .before .before .before .before .before .before .before .before .before .event-at) .result) .state) ((c .before .before .before .before .before .before .before .before .before .before .before .before .before .before .before .before .before .before .before .before .before .before .before .before .before .before .before .before .before .before .before .before .before .before .before .before .before .before .before .loop) .clock + (c .before .before .before .before .before .before .before .before .before .before .before .before .before .before .before .before .before .before .before .before .before .before .before .before .before .before .before .before .before .before .before .before .step-to) .result) (set (set ((c .before .before .before .before .before .before .before .before .before .before .before .before .before .before .before .before .before .before .before .before .before .before .before .before .before .before .before .before .before .before .before .before .before .before .before .before .before .before .before .loop) .tasks) ((c .before .before .before .before .before .before .before .before .before .before .before .before .before .before .before .before .before .before .before .before .before .before .before .before .before .before .before .before .before .before .before .before .before .before .before .before .before .event-at) .result .task) ((c .before .before .before .before .before .before .before .before .before .before .before .before .before .before .before .before .before .before .before .before .before .before .before .before .before .edited) .result .task)) ((c .before .before .before .before .before .before .before .before .before .before .before .before .before .before .before .before .before .before .before .before .before .before .before .before .before .edited) .result .next) ((c .before .before .before .before .before .before .before .before .before .before .hand-over) .result .task)) (set (set ((c .before .before .before .before .before .before .before .before .before .before .before .before .before .before .before .before .before .before .before .before .before .before .before .before .before .before .before .before .before .before .before .before .before .before .before .before .before .before .before .loop) .groups) ((c .before .before .before .before .before .before .before .before .before .before .before .before .before .before .before .before .before .before .before .before .before .before .before .before .before .before .before .before .place-in) .result) ((c .before .before .before .before .before .before .before .before .before .before .before .before .before .before .before .before .before .before .before .before .before .before .before .before .before .edited) .result .group)) ((c .before .before .before .before .before .before .before .before .before .before .before .before .before .before .before .before .before .before .before .before .before .before .before .before .before .before .before .before .place-in) .result) ((c .before .before .before .before .before .before .before .before .before .before .hand-over) .result .group)) ((c .moved2) .result) (chargedTo ((c .before .before .before .before .before .before .before .before .before .before .before .before .before .before .before .before .before .before .before .before .before .before .before .before .before .before .before .before .before .before .before .before .before .before .before .before .before .before .before .loop) .p) ((c .before .before .before .before .before .before .before .before .before .before .before .before .before .before .before .before .before .before .before .before .before .before .before .before .before .before .before .before .before .before .before .before .step-to) .result) ((c .before .before .before .before .before .before .before .before .before .before .before .before .before .before .before .before .before .before .before .before .before .before .before .before .before .before .before .before .before .before .before .before .before .before .before .before .before .before .before .loop) .stands) ((c .before .before .before .before .before .before .before .before .before .before .before .before .before .before .before .before .before .before .before .before .before .before .before .before .before .before .before .before .before .before .before .before .before .before .before .before .before .before .before .loop) .totals) ((c .before .before .before .before .before .before .before .before .before .before .before .before .before .before .before .before .before .before .before .before .before .before .before .before .before .before .before .before .before .before .before .before .before .before .before .before .before .before .before .before .before .before .before .before .before .before .before .before .before .before .before .before .before) .args .state .setup .tasks)) ((c .before .before .before .before .keep2) .last .0) ((c .before .before .before .before .keep2) .last .1 .0) ((c .before .before .before .before .keep2) .last .1 .1 .0)
-handed-on c = plays-on (accepts (c .before .before .before .before .before .before .before .before .before .before .before .before .before .before .before .before .before .before .before .before .before .before .before .before .before .before .before .before .before .before .before .before)) ((c .before .before .before .before .before .before .before .before .before .before .before .before .before .before .before .before .before .before .before .before .before .before .before .before .before .before .before .before .place-in) .result) ((c .before .before .before .before .before .before .before .before .before .before .before .before .before .before .before .before .before .before .before .before .before .before .before .before .before .before .before .before .place-in) .ensures .0) (placed-at (c .before .before .before .before .before .before .before .before .before .before .before .before .before .before .before .before .before .before .before .before .before .before .before .before .before .before .before .before)) ((c .before .before .before .before .before .before .before .before .before .before .before .before .before .before .before .before .before .before .before .before .before .before .before .before .before .edited) .result) (edit-is (c .before .before .before .before .before .before .before .before .before .before .before .before .before .before .before .before .before .before .before .before .before .before .before .before .before)) ((c .before .before .before .before .before .before .before .before .before .before .before .before .before .before .before .before .before .before .before .keep) .last .0) ((c .before .before .before .before .before .before .before .before .before .before .before .before .before .before .before .before .before .before .before .keep) .last .1 .0) ((c .before .before .before .before .before .before .before .before .before .before .before .before .before .before .before .before .before .before .before .keep) .last .1 .1 .0) ((c .before .before .before .before .before .before .before .before .before .before .before .before .before .before .before .before .before .before .before .keep) .ensures .0) ((c .before .before .before .before .before .before .before .before .before .before .before .before .before .before .before .before .before .before .before .keep) .ensures .1) ((c .before .before .before .before .before .before .before .before .before .before .before .before .before .before .before .before .before .before .before .keep) .ensures .2) ((c .before .before .before .before .before .before .before .before .before .before .before .before .before .before .before .moved) .result) ((c .before .before .before .before .before .before .before .before .before .before .before .before .before .before .before .moved) .ensures) ((c .before .before .before .before .before .before .before .before .before .before .before .before .before .if3) .taken) ((c .before .before .before .before .before .before .before .before .before .before .hand-over) .result) (heir-is (c .before .before .before .before .before .before .before .before .before .before)) ((c .before .before .before .before .keep2) .last .0) ((c .before .before .before .before .keep2) .last .1 .0) ((c .before .before .before .before .keep2) .last .1 .1 .0) ((c .before .before .before .before .keep2) .ensures .0) ((c .before .before .before .before .keep2) .ensures .1) ((c .before .before .before .before .keep2) .ensures .2) ((c .moved2) .result) ((c .moved2) .ensures)
+handed-on : (c : tie.After-moved2 Inv-loop μ-loop) → Keeps (step (reached (c .before .before .before .before .before .before .before .before .before .before .before .before .before .before .before .before .before .before .before .before .before .before .before .before .before .before .before .before)) ((c .before .before .before .before .before .before .before .before .before .before .before .before .before .before .before .before .before .before .before .before .before .before .before .before .before .before .event-at) .result) .state) ((c .before .before .before .before .before .before .before .before .before .before .before .before .before .before .before .before .before .before .before .before .before .before .before .before .before .before .before .before .loop) .clock + (c .before .before .before .before .before .before .before .before .before .before .before .before .before .before .before .before .before .before .before .before .before .step-to) .result) (set (set ((c .before .before .before .before .before .before .before .before .before .before .before .before .before .before .before .before .before .before .before .before .before .before .before .before .before .before .before .before .loop) .tasks) ((c .before .before .before .before .before .before .before .before .before .before .before .before .before .before .before .before .before .before .before .before .before .before .before .before .before .before .event-at) .result .task) ((c .before .before .before .before .before .before .before .before .before .before .before .before .before .edited) .result .task)) ((c .before .before .before .before .before .before .before .before .before .before .before .before .before .edited) .result .next) ((c .before .before .before .before .hand-over) .result .task)) (set (set ((c .before .before .before .before .before .before .before .before .before .before .before .before .before .before .before .before .before .before .before .before .before .before .before .before .before .before .before .before .loop) .groups) ((c .before .before .before .before .before .before .before .before .before .before .before .before .before .before .before .before .place-in) .result) ((c .before .before .before .before .before .before .before .before .before .before .before .before .before .edited) .result .group)) ((c .before .before .before .before .before .before .before .before .before .before .before .before .before .before .before .before .place-in) .result) ((c .before .before .before .before .hand-over) .result .group)) ((c .moved2) .result) (chargedTo ((c .before .before .before .before .before .before .before .before .before .before .before .before .before .before .before .before .before .before .before .before .before .before .before .before .before .before .before .before .loop) .p) ((c .before .before .before .before .before .before .before .before .before .before .before .before .before .before .before .before .before .before .before .before .before .step-to) .result) ((c .before .before .before .before .before .before .before .before .before .before .before .before .before .before .before .before .before .before .before .before .before .before .before .before .before .before .before .before .loop) .kept .stands) ((c .before .before .before .before .before .before .before .before .before .before .before .before .before .before .before .before .before .before .before .before .before .before .before .before .before .before .before .before .loop) .totals) ((c .before .before .before .before .before .before .before .before .before .before .before .before .before .before .before .before .before .before .before .before .before .before .before .before .before .before .before .before .before .before .before .before .before .before .before .before .before .before .before) .args .state .setup .tasks)) ((c .before .keep2) .result .own) ((c .before .keep2) .result .modes) ((c .before .keep2) .result .stands)
+handed-on c = plays-on (accepts (c .before .before .before .before .before .before .before .before .before .before .before .before .before .before .before .before .before .before .before .before .before)) ((c .before .before .before .before .before .before .before .before .before .before .before .before .before .before .before .before .place-in) .result) ((c .before .before .before .before .before .before .before .before .before .before .before .before .before .before .before .before .place-in) .ensures .0) (placed-at (c .before .before .before .before .before .before .before .before .before .before .before .before .before .before .before .before)) ((c .before .before .before .before .before .before .before .before .before .before .before .before .before .edited) .result) (edit-is (c .before .before .before .before .before .before .before .before .before .before .before .before .before)) ((c .before .before .before .before .before .before .before .before .before .before .keep) .result .own) ((c .before .before .before .before .before .before .before .before .before .before .keep) .result .modes) ((c .before .before .before .before .before .before .before .before .before .before .keep) .result .stands) (ap (λ (k : Kept). k .own) ((c .before .before .before .before .before .before .before .before .before .before .keep) .ensures)) (ap (λ (k : Kept). k .modes) ((c .before .before .before .before .before .before .before .before .before .before .keep) .ensures)) (ap (λ (k : Kept). k .stands) ((c .before .before .before .before .before .before .before .before .before .before .keep) .ensures)) ((c .before .before .before .before .before .before .before .before .before .moved) .result) ((c .before .before .before .before .before .before .before .before .before .moved) .ensures) ((c .before .before .before .before .before .before .before .if3) .taken) ((c .before .before .before .before .hand-over) .result) (heir-is (c .before .before .before .before)) ((c .before .keep2) .result .own) ((c .before .keep2) .result .modes) ((c .before .keep2) .result .stands) (ap (λ (k : Kept). k .own) ((c .before .keep2) .ensures)) (ap (λ (k : Kept). k .modes) ((c .before .keep2) .ensures)) (ap (λ (k : Kept). k .stands) ((c .before .keep2) .ensures)) ((c .moved2) .result) ((c .moved2) .ensures)
 
-ended-on : (c : tie.Else3 Inv-loop μ-loop) → Keeps (step (reached (c .before .before .before .before .before .before .before .before .before .before .before .before .before .before .before .before .before .before .before .before .before .before .before .before .before .before)) ((c .before .before .before .before .before .before .before .before .before .before .before .before .before .before .before .before .before .before .before .before .before .before .before .before .event-at) .result) .state) ((c .before .before .before .before .before .before .before .before .before .before .before .before .before .before .before .before .before .before .before .before .before .before .before .before .before .before .loop) .clock + (c .before .before .before .before .before .before .before .before .before .before .before .before .before .before .before .before .before .before .before .step-to) .result) (set ((c .before .before .before .before .before .before .before .before .before .before .before .before .before .before .before .before .before .before .before .before .before .before .before .before .before .before .loop) .tasks) ((c .before .before .before .before .before .before .before .before .before .before .before .before .before .before .before .before .before .before .before .before .before .before .before .before .event-at) .result .task) ((c .before .before .before .before .before .before .before .before .before .before .before .before .edited) .result .task)) (set ((c .before .before .before .before .before .before .before .before .before .before .before .before .before .before .before .before .before .before .before .before .before .before .before .before .before .before .loop) .groups) ((c .before .before .before .before .before .before .before .before .before .before .before .before .before .before .before .place-in) .result) ((c .before .before .before .before .before .before .before .before .before .before .before .before .edited) .result .group)) ((c .before .before .moved) .result) (chargedTo ((c .before .before .before .before .before .before .before .before .before .before .before .before .before .before .before .before .before .before .before .before .before .before .before .before .before .before .loop) .p) ((c .before .before .before .before .before .before .before .before .before .before .before .before .before .before .before .before .before .before .before .step-to) .result) ((c .before .before .before .before .before .before .before .before .before .before .before .before .before .before .before .before .before .before .before .before .before .before .before .before .before .before .loop) .stands) ((c .before .before .before .before .before .before .before .before .before .before .before .before .before .before .before .before .before .before .before .before .before .before .before .before .before .before .loop) .totals) ((c .before .before .before .before .before .before .before .before .before .before .before .before .before .before .before .before .before .before .before .before .before .before .before .before .before .before .before .before .before .before .before .before .before .before .before .before .before .before .before .before) .args .state .setup .tasks)) ((c .before .before .before .before .before .before .keep) .last .0) ((c .before .before .before .before .before .before .keep) .last .1 .0) ((c .before .before .before .before .before .before .keep) .last .1 .1 .0)
-ended-on c = plays (accepts (c .before .before .before .before .before .before .before .before .before .before .before .before .before .before .before .before .before .before .before)) ((c .before .before .before .before .before .before .before .before .before .before .before .before .before .before .before .place-in) .result) ((c .before .before .before .before .before .before .before .before .before .before .before .before .before .before .before .place-in) .ensures .0) (placed-at (c .before .before .before .before .before .before .before .before .before .before .before .before .before .before .before)) ((c .before .before .before .before .before .before .before .before .before .before .before .before .edited) .result) (edit-is (c .before .before .before .before .before .before .before .before .before .before .before .before)) ((c .before .before .before .before .before .before .keep) .last .0) ((c .before .before .before .before .before .before .keep) .last .1 .0) ((c .before .before .before .before .before .before .keep) .last .1 .1 .0) ((c .before .before .before .before .before .before .keep) .ensures .0) ((c .before .before .before .before .before .before .keep) .ensures .1) ((c .before .before .before .before .before .before .keep) .ensures .2) ((c .before .before .moved) .result) ((c .before .before .moved) .ensures) ((c .if3) .left)
-
-kept-long : (l l′ : List ℕ) (t x : ℕ) → l′ ≡ set l t x → length l ≡ mostTasks → mostTasks ≡ length l′
-kept-long l l′ t x h long = sym (ap length h ∙ length-set l t x ∙ long)
+ended-on : (c : tie.Else3 Inv-loop μ-loop) → Keeps (step (reached (c .before .before .before .before .before .before .before .before .before .before .before .before .before .before .before .before .before .before .before .before .before)) ((c .before .before .before .before .before .before .before .before .before .before .before .before .before .before .before .before .before .before .before .event-at) .result) .state) ((c .before .before .before .before .before .before .before .before .before .before .before .before .before .before .before .before .before .before .before .before .before .loop) .clock + (c .before .before .before .before .before .before .before .before .before .before .before .before .before .before .step-to) .result) (set ((c .before .before .before .before .before .before .before .before .before .before .before .before .before .before .before .before .before .before .before .before .before .loop) .tasks) ((c .before .before .before .before .before .before .before .before .before .before .before .before .before .before .before .before .before .before .before .event-at) .result .task) ((c .before .before .before .before .before .before .edited) .result .task)) (set ((c .before .before .before .before .before .before .before .before .before .before .before .before .before .before .before .before .before .before .before .before .before .loop) .groups) ((c .before .before .before .before .before .before .before .before .before .place-in) .result) ((c .before .before .before .before .before .before .edited) .result .group)) ((c .before .before .moved) .result) (chargedTo ((c .before .before .before .before .before .before .before .before .before .before .before .before .before .before .before .before .before .before .before .before .before .loop) .p) ((c .before .before .before .before .before .before .before .before .before .before .before .before .before .before .step-to) .result) ((c .before .before .before .before .before .before .before .before .before .before .before .before .before .before .before .before .before .before .before .before .before .loop) .kept .stands) ((c .before .before .before .before .before .before .before .before .before .before .before .before .before .before .before .before .before .before .before .before .before .loop) .totals) ((c .before .before .before .before .before .before .before .before .before .before .before .before .before .before .before .before .before .before .before .before .before .before .before .before .before .before .before .before .before .before .before .before) .args .state .setup .tasks)) ((c .before .before .before .keep) .result .own) ((c .before .before .before .keep) .result .modes) ((c .before .before .before .keep) .result .stands)
+ended-on c = plays (accepts (c .before .before .before .before .before .before .before .before .before .before .before .before .before .before)) ((c .before .before .before .before .before .before .before .before .before .place-in) .result) ((c .before .before .before .before .before .before .before .before .before .place-in) .ensures .0) (placed-at (c .before .before .before .before .before .before .before .before .before)) ((c .before .before .before .before .before .before .edited) .result) (edit-is (c .before .before .before .before .before .before)) ((c .before .before .before .keep) .result .own) ((c .before .before .before .keep) .result .modes) ((c .before .before .before .keep) .result .stands) (ap (λ (k : Kept). k .own) ((c .before .before .before .keep) .ensures)) (ap (λ (k : Kept). k .modes) ((c .before .before .before .keep) .ensures)) (ap (λ (k : Kept). k .stands) ((c .before .before .before .keep) .ensures)) ((c .before .before .moved) .result) ((c .before .before .moved) .ensures) ((c .if3) .left)
 
 -- however the event was answered
 answered : (c : tie.Joined2 Inv-loop μ-loop) → c .before .judge-parts .result ≡ judge (reached (c .before .before .before .before .before .before)) ((c .before .before .before .before .event-at) .result)
 answered c = c .before .judge-parts .ensures _ (has-parts (c .before))
 
-goes-on : (c : tie.Joined2 Inv-loop μ-loop) → Keeps (step (reached (c .before .before .before .before .before .before)) ((c .before .before .before .before .event-at) .result) .state) (c .if2 .clock) (c .if2 .tasks) (c .if2 .groups) (c .if2 .p) (c .if2 .totals) (c .if2 .own) (c .if2 .modes) (c .if2 .stands)
+goes-on : (c : tie.Joined2 Inv-loop μ-loop) → Keeps (step (reached (c .before .before .before .before .before .before)) ((c .before .before .before .before .event-at) .result) .state) (c .if2 .clock) (c .if2 .tasks) (c .if2 .groups) (c .if2 .p) (c .if2 .totals) (c .if2 .kept .own) (c .if2 .kept .modes) (c .if2 .kept .stands)
 goes-on c =
     ⊎-elim
-    (λ w. rw (w .34, w .35, w .36, w .37, w .38 ∙ w .3 .ensures, w .39, w .40, w .41) (handed-on (record { before = record { before = record { before = record { before = record { before = record { before = record { before = record { before = record { before = record { before = record { before = record { before = record { before = record { before = record { before = record { before = record { before = record { before = record { before = record { before = record { before = record { before = record { before = record { before = record { before = record { before = record { before = record { before = record { before = record { before = record { before = record { before = record { before = record { before = c .before; if2 = w .0 }; step-to = w .1 }; totals = w .2 }; charge = w .3 }; totals2 = w .4 }; place-in = w .5 }; held = w .6 }; period-at = w .7 }; edited = w .8 }; mine = w .9 }; group = w .10 }; own = w .11 }; modes = w .12 }; stands = w .13 }; keep = w .14 }; own2 = w .15 }; modes2 = w .16 }; stands2 = w .17 }; moved = w .18 }; struct-known2 = w .19 }; if3 = w .20 }; struct-known3 = w .21 }; waits = w .22 }; hand-over = w .23 }; heir = w .24 }; line = w .25 }; own3 = w .26 }; modes3 = w .27 }; stands3 = w .28 }; keep2 = w .29 }; own4 = w .30 }; modes4 = w .31 }; stands4 = w .32 }; moved2 = w .33 })))
+    (λ w. rw (w .23, w .24, w .25, w .26, w .27 ∙ w .4 .ensures, w .28) (handed-on (record { before = record { before = record { before = record { before = record { before = record { before = record { before = record { before = record { before = record { before = record { before = record { before = record { before = record { before = record { before = record { before = record { before = record { before = record { before = record { before = record { before = record { before = record { before = c .before; if2 = w .0 }; step-to = w .1 }; stands = w .2 }; totals = w .3 }; charge = w .4 }; totals2 = w .5 }; place-in = w .6 }; held = w .7 }; edited-arg = w .8 }; edited = w .9 }; mine = w .10 }; group = w .11 }; keep = w .12 }; moved = w .13 }; struct-known2 = w .14 }; if3 = w .15 }; struct-known3 = w .16 }; waits = w .17 }; hand-over = w .18 }; heir = w .19 }; line = w .20 }; keep2 = w .21 }; moved2 = w .22 })))
     (⊎-elim
-    (λ w. rw (w .21, w .22, w .23, w .24, w .25 ∙ w .3 .ensures, w .26, w .27, w .28) (ended-on (record { before = record { before = record { before = record { before = record { before = record { before = record { before = record { before = record { before = record { before = record { before = record { before = record { before = record { before = record { before = record { before = record { before = record { before = record { before = record { before = record { before = c .before; if2 = w .0 }; step-to = w .1 }; totals = w .2 }; charge = w .3 }; totals2 = w .4 }; place-in = w .5 }; held = w .6 }; period-at = w .7 }; edited = w .8 }; mine = w .9 }; group = w .10 }; own = w .11 }; modes = w .12 }; stands = w .13 }; keep = w .14 }; own2 = w .15 }; modes2 = w .16 }; stands2 = w .17 }; moved = w .18 }; struct-known2 = w .19 }; if3 = w .20 })))
-    (λ w. rw (w .1, w .2, w .3, w .4, w .5, w .6, w .7, w .8, refused-stays (reached (c .before .before .before .before .before .before)) ((c .before .before .before .before .event-at) .result) (λ q. w .0 .left (answered c ∙ q))) ((c .before .before .before .before .before .before .loop) .inv .2)))
+    (λ w. rw (w .16, w .17, w .18, w .19, w .20 ∙ w .4 .ensures, w .21) (ended-on (record { before = record { before = record { before = record { before = record { before = record { before = record { before = record { before = record { before = record { before = record { before = record { before = record { before = record { before = record { before = record { before = c .before; if2 = w .0 }; step-to = w .1 }; stands = w .2 }; totals = w .3 }; charge = w .4 }; totals2 = w .5 }; place-in = w .6 }; held = w .7 }; edited-arg = w .8 }; edited = w .9 }; mine = w .10 }; group = w .11 }; keep = w .12 }; moved = w .13 }; struct-known2 = w .14 }; if3 = w .15 })))
+    (λ w. rw (w .1, w .2, w .3, w .4, w .5, w .6, refused-stays (reached (c .before .before .before .before .before .before)) ((c .before .before .before .before .event-at) .result) (λ q. w .0 .left (answered c ∙ q))) ((c .before .before .before .before .before .before .loop) .inv .2)))
     (c .if2 .came)
 
 totals-of-requires : tie.Need-totals-of-requires Inv-loop μ-loop
 totals-of-requires c κs = search needs
 
-own-ranks-requires : tie.Need-own-ranks-requires Inv-loop μ-loop
-own-ranks-requires c κs = search needs
-
-modes-of-requires : tie.Need-modes-of-requires Inv-loop μ-loop
-modes-of-requires c κs = search needs
-
-stands-of-requires : tie.Need-stands-of-requires Inv-loop μ-loop
-stands-of-requires c κs = search needs
+kept-of-requires : tie.Need-kept-of-requires Inv-loop μ-loop
+kept-of-requires c κs = search needs
 
 loop-holds : tie.Need-loop-holds Inv-loop μ-loop
 unfolding playedTo writtenTo
-loop-holds c = (omega arith, refl, rw ((c .before .before .before .totals-of) .ensures, (c .before .before .own-ranks) .ensures, (c .before .modes-of) .ensures, (c .stands-of) .ensures) (keeps-start ((c .before .before .before .before .before .before .before .before .before .before .before .before .before) .args .state) (shaped _ _ ((c .before .before .before .before .before .before .before .before .before .before .before .before .before) .good .0))), refl)
+loop-holds c = (omega arith, refl, rw ((c .before .totals-of) .ensures, (c .kept-of) .ensures) (keeps-start ((c .before .before .before .before .before .before .before .before .before .before) .args .state) (shaped _ _ ((c .before .before .before .before .before .before .before .before .before .before) .good .0))), refl)
 
 event-at-requires : tie.Need-event-at-requires Inv-loop μ-loop
 event-at-requires c κs = search needs
@@ -210,7 +200,7 @@ no-task-requires : tie.Need-no-task-requires Inv-loop μ-loop
 no-task-requires c κs = search needs
 
 judge-parts-requires : tie.Need-judge-parts-requires Inv-loop μ-loop
-judge-parts-requires c κs = λ known. let read = record-read c in omega (arith, ap (λ (x : Task). x .depth) (read .1), few-along ((c .before .before .before .before .before .before .before .before .before .before .before .before .before .before .before .before .before .before) .args .state) ((c .before .before .before .before .before .before .before .before .before .before .before .before .before .before .before .before .before .before) .args .part .now) (whole (c .before .before .before .before)) ((c .before .before .before .before .loop) .i) (sym (ap (λ (y : Tested). y .passes) ((c .before .before .before .before .before .before .before .before .before .before .before .before .before .before .before .before .before .before) .pre .0)) ∙ known) ((c .before .before .event-at) .result .task))
+judge-parts-requires c κs = λ known. let read = record-read c in omega (arith, ap (λ (x : Task). x .depth) (read .1), few-along ((c .before .before .before .before .before .before .before .before .before .before .before .before .before .before .before) .args .state) ((c .before .before .before .before .before .before .before .before .before .before .before .before .before .before .before) .args .part .now) (whole (c .before .before .before .before)) ((c .before .before .before .before .loop) .i) (sym (ap (λ (y : Tested). y .passes) ((c .before .before .before .before .before .before .before .before .before .before .before .before .before .before .before) .pre .0)) ∙ known) ((c .before .before .event-at) .result .task))
 
 step-to-requires : tie.Need-step-to-requires Inv-loop μ-loop
 step-to-requires c κs = search needs
@@ -219,13 +209,13 @@ slice-aggregate-charge : tie.Need-slice-aggregate-charge Inv-loop μ-loop
 slice-aggregate-charge c = search needs
 
 charge-requires : tie.Need-charge-requires Inv-loop μ-loop
-charge-requires c κs = (few-tasks (accepts (c .before)), can-charge (accepts (c .before)))
+charge-requires c κs = (few-tasks (accepts (c .before .before)), can-charge (accepts (c .before .before)))
 
 cast-clock : tie.Need-cast-clock Inv-loop μ-loop
 cast-clock c = search needs
 
 add-clock : tie.Need-add-clock Inv-loop μ-loop
-add-clock c = let l = clock-room (accepts (c .before .before .before)) in search needs
+add-clock c = let l = clock-room (accepts (c .before .before .before .before)) in search needs
 
 place-in-requires : tie.Need-place-in-requires Inv-loop μ-loop
 place-in-requires c κs = search needs
@@ -236,17 +226,20 @@ mul-held c = search needs
 array-copy-out-held : tie.Need-array-copy-out-held Inv-loop μ-loop
 array-copy-out-held c = search needs
 
-period-at-requires : tie.Need-period-at-requires Inv-loop μ-loop
-period-at-requires c κs = search needs
+mul-edited : tie.Need-mul-edited Inv-loop μ-loop
+mul-edited c = let l = task-in (accepts (c .before .before .before .before .before .before)) in search needs
+
+element-copy-out-edited : tie.Need-element-copy-out-edited Inv-loop μ-loop
+element-copy-out-edited c = task-in (accepts (c .before .before .before .before .before .before))
 
 edited-requires : tie.Need-edited-requires Inv-loop μ-loop
-edited-requires c κs = subst (λ (x : Task). ((c .before .before .before .before .before .before .before .before .before .before .before .event-at) .result .kind ≡ asking → x .depth < mostRequests) × ((c .before .before .before .before .before .before .before .before .before .before .before .event-at) .result .kind ≡ completion → (0 < x .depth) × (x .depth ≤ mostRequests))) (sym (task-is (c .before .before .before .before .before .before .before .before .before) (task-in (accepts (c .before .before .before .before .before .before))))) (may-edit (accepts (c .before .before .before .before .before .before)) ((c .before .before .place-in) .result) ((c .before .before .place-in) .ensures .0) (placed-at (c .before .before)))
+edited-requires c κs = subst (λ (x : Task). ((c .before .before .before .before .before .before .before .before .before .before .before .before .event-at) .result .kind ≡ asking → x .depth < mostRequests) × ((c .before .before .before .before .before .before .before .before .before .before .before .before .event-at) .result .kind ≡ completion → (0 < x .depth) × (x .depth ≤ mostRequests))) (sym (task-is (c .before .before .before .before .before .before .before .before .before .before) (task-in (accepts (c .before .before .before .before .before .before .before))))) (may-edit (accepts (c .before .before .before .before .before .before .before)) ((c .before .before .place-in) .result) ((c .before .before .place-in) .ensures .0) (placed-at (c .before .before)))
 
 mul-tasks : tie.Need-mul-tasks Inv-loop μ-loop
-mul-tasks c = let l = task-in (accepts (c .before .before .before .before .before .before .before .before .before)) in search needs
+mul-tasks c = let l = task-in (accepts (c .before .before .before .before .before .before .before .before .before .before)) in search needs
 
 array-set-from-tasks : tie.Need-array-set-from-tasks Inv-loop μ-loop
-array-set-from-tasks c = task-in (accepts (c .before .before .before .before .before .before .before .before .before))
+array-set-from-tasks c = task-in (accepts (c .before .before .before .before .before .before .before .before .before .before))
 
 mul-groups : tie.Need-mul-groups Inv-loop μ-loop
 mul-groups c = search needs
@@ -254,20 +247,11 @@ mul-groups c = search needs
 array-set-from-groups : tie.Need-array-set-from-groups Inv-loop μ-loop
 array-set-from-groups c = search needs
 
-slice-aggregate-keep : tie.Need-slice-aggregate-keep Inv-loop μ-loop
-slice-aggregate-keep c = sym (ap length ((c .before .before .before .before .before .before .before .before .before .before .before .before .before .before .before .before .before .loop) .inv .2 .ranked) ∙ table-length _ mostTasks)
-
-slice-aggregate-keep-2 : tie.Need-slice-aggregate-keep-2 Inv-loop μ-loop
-slice-aggregate-keep-2 c = sym (ap length ((c .before .before .before .before .before .before .before .before .before .before .before .before .before .before .before .before .before .before .loop) .inv .2 .ready) ∙ table-length _ mostTasks)
-
-slice-aggregate-keep-3 : tie.Need-slice-aggregate-keep-3 Inv-loop μ-loop
-slice-aggregate-keep-3 c = sym (ap length ((c .before .before .before .before .before .before .before .before .before .before .before .before .before .before .before .before .before .before .before .loop) .inv .2 .stood) ∙ table-length _ mostTasks)
-
 keep-requires : tie.Need-keep-requires Inv-loop μ-loop
-keep-requires c κs = search needs
+keep-requires c κs = task-in (accepts (c .before .before .before .before .before .before .before .before .before .before))
 
 moved-requires : tie.Need-moved-requires Inv-loop μ-loop
-moved-requires c κs = may-move (accepts (c .before .before .before .before .before .before .before .before .before .before .before .before .before .before .before .before)) ((c .before .before .before .before .before .before .before .before .before .before .before .before .place-in) .result) ((c .before .before .before .before .before .before .before .before .before .before .before .before .place-in) .ensures .0) (placed-at (c .before .before .before .before .before .before .before .before .before .before .before .before)) ((c .before .before .before .before .before .before .before .before .before .edited) .result) (edit-is (c .before .before .before .before .before .before .before .before .before)) ((c .before .before .before .keep) .last .0) ((c .before .before .before .keep) .last .1 .0) ((c .before .before .before .keep) .last .1 .1 .0) ((c .before .before .before .keep) .ensures .0) ((c .before .before .before .keep) .ensures .1) ((c .before .before .before .keep) .ensures .2)
+moved-requires c κs = may-move (accepts (c .before .before .before .before .before .before .before .before .before .before .before)) ((c .before .before .before .before .before .before .place-in) .result) ((c .before .before .before .before .before .before .place-in) .ensures .0) (placed-at (c .before .before .before .before .before .before)) ((c .before .before .before .edited) .result) (edit-is (c .before .before .before)) ((c .keep) .result .own) ((c .keep) .result .modes) ((c .keep) .result .stands) (ap (λ (k : Kept). k .own) ((c .keep) .ensures)) (ap (λ (k : Kept). k .modes) ((c .keep) .ensures)) (ap (λ (k : Kept). k .stands) ((c .keep) .ensures))
 
 cast-u : tie.Need-cast-u Inv-loop μ-loop
 cast-u c = search needs
@@ -279,7 +263,7 @@ array-copy-out-waits : tie.Need-array-copy-out-waits Inv-loop μ-loop
 array-copy-out-waits c = heir-in (c .before) .0
 
 hand-over-requires : tie.Need-hand-over-requires Inv-loop μ-loop
-hand-over-requires c κs = rw (task-read (set ((c .before .before .before .before .before .before .before .before .before .before .before .before .before .before .before .before .before .before .before .before .before .before .before .before .before .before .before .before .loop) .tasks) ((c .before .before .before .before .before .before .before .before .before .before .before .before .before .before .before .before .before .before .before .before .before .before .before .before .before .before .event-at) .result .task) ((c .before .before .before .before .before .before .before .before .before .before .before .before .before .before .edited) .result .task)) ((c .before .before .before .before .before .before .before .before .before .before .before .before .before .before .edited) .result .next) (omega (arith, length-set ((c .before .before .before .before .before .before .before .before .before .before .before .before .before .before .before .before .before .before .before .before .before .before .before .before .before .before .before .before .loop) .tasks) ((c .before .before .before .before .before .before .before .before .before .before .before .before .before .before .before .before .before .before .before .before .before .before .before .before .before .before .event-at) .result .task) ((c .before .before .before .before .before .before .before .before .before .before .before .before .before .before .edited) .result .task), (c .before .before .before .before .before .before .before .before .before .before .before .before .before .before .before .before .before .before .before .before .before .before .before .before .before .before .before .before .loop) .inv .2 .few, heir-in (c .before .before) .0))) (heir-in (c .before .before) .1)
+hand-over-requires c κs = rw (task-read (set ((c .before .before .before .before .before .before .before .before .before .before .before .before .before .before .before .before .before .before .before .before .before .before .before .loop) .tasks) ((c .before .before .before .before .before .before .before .before .before .before .before .before .before .before .before .before .before .before .before .before .before .event-at) .result .task) ((c .before .before .before .before .before .before .before .before .edited) .result .task)) ((c .before .before .before .before .before .before .before .before .edited) .result .next) (omega (arith, length-set ((c .before .before .before .before .before .before .before .before .before .before .before .before .before .before .before .before .before .before .before .before .before .before .before .loop) .tasks) ((c .before .before .before .before .before .before .before .before .before .before .before .before .before .before .before .before .before .before .before .before .before .event-at) .result .task) ((c .before .before .before .before .before .before .before .before .edited) .result .task), (c .before .before .before .before .before .before .before .before .before .before .before .before .before .before .before .before .before .before .before .before .before .before .before .loop) .inv .2 .few, heir-in (c .before .before) .0))) (heir-in (c .before .before) .1)
 
 mul-tasks-2 : tie.Need-mul-tasks-2 Inv-loop μ-loop
 mul-tasks-2 c = let l = heir-in (c .before .before .before .before .before) .0 in search needs
@@ -288,31 +272,22 @@ array-set-from-tasks-2 : tie.Need-array-set-from-tasks-2 Inv-loop μ-loop
 array-set-from-tasks-2 c = heir-in (c .before .before .before .before .before) .0
 
 mul-groups-2 : tie.Need-mul-groups-2 Inv-loop μ-loop
-mul-groups-2 c = let l = (c .before .before .before .before .before .before .before .before .before .before .before .before .before .before .before .before .before .before .before .before .place-in) .ensures .0 in search needs
+mul-groups-2 c = let l = (c .before .before .before .before .before .before .before .before .before .before .before .before .before .before .place-in) .ensures .0 in search needs
 
 array-set-from-groups-2 : tie.Need-array-set-from-groups-2 Inv-loop μ-loop
-array-set-from-groups-2 c = (c .before .before .before .before .before .before .before .before .before .before .before .before .before .before .before .before .before .before .before .before .place-in) .ensures .0
-
-slice-aggregate-keep-4 : tie.Need-slice-aggregate-keep-4 Inv-loop μ-loop
-slice-aggregate-keep-4 c = kept-long ((c .before .before .before .before .before .before .before .before .before .before .before .before .before .before .before .before .before .before .before .before .before .before .before .before .before .before .before .before .before .before .before .before .loop) .own) ((c .before .before .before .before .before .before .before .before .before .before .before .before .keep) .last .0) ((c .before .before .before .before .before .before .before .before .before .before .before .before .before .before .before .before .before .before .before .before .before .before .before .before .before .before .before .before .before .before .event-at) .result .task) (rankBy ((c .before .before .before .before .before .before .before .before .before .before .before .before .before .before .before .before .before .before .edited) .result .task .deadline) ((c .before .before .before .before .before .before .before .before .before .before .before .before .before .before .before .before .before .before .before .before .before .before .before .before .before .before .before .before .before .before .event-at) .result .task)) ((c .before .before .before .before .before .before .before .before .before .before .before .before .keep) .ensures .0) (ap length ((c .before .before .before .before .before .before .before .before .before .before .before .before .before .before .before .before .before .before .before .before .before .before .before .before .before .before .before .before .before .before .before .before .loop) .inv .2 .ranked) ∙ table-length _ mostTasks)
-
-slice-aggregate-keep-5 : tie.Need-slice-aggregate-keep-5 Inv-loop μ-loop
-slice-aggregate-keep-5 c = kept-long ((c .before .before .before .before .before .before .before .before .before .before .before .before .before .before .before .before .before .before .before .before .before .before .before .before .before .before .before .before .before .before .before .before .before .loop) .modes) ((c .before .before .before .before .before .before .before .before .before .before .before .before .before .keep) .last .1 .0) ((c .before .before .before .before .before .before .before .before .before .before .before .before .before .before .before .before .before .before .before .before .before .before .before .before .before .before .before .before .before .before .before .event-at) .result .task) (modeIn ((c .before .before .before .before .before .before .before .before .before .before .before .before .before .before .before .before .before .before .before .before .before .before .before .before .before .before .before .before .before .before .before .before .before .before .before .before .before .before .before .before .before .before .before .before .before .before .before) .args .state .setup .kinds) ((c .before .before .before .before .before .before .before .before .before .before .before .before .before .before .before .before .before .before .before .edited) .result .task)) ((c .before .before .before .before .before .before .before .before .before .before .before .before .before .keep) .ensures .1) (ap length ((c .before .before .before .before .before .before .before .before .before .before .before .before .before .before .before .before .before .before .before .before .before .before .before .before .before .before .before .before .before .before .before .before .before .loop) .inv .2 .ready) ∙ table-length _ mostTasks)
-
-slice-aggregate-keep-6 : tie.Need-slice-aggregate-keep-6 Inv-loop μ-loop
-slice-aggregate-keep-6 c = kept-long ((c .before .before .before .before .before .before .before .before .before .before .before .before .before .before .before .before .before .before .before .before .before .before .before .before .before .before .before .before .before .before .before .before .before .before .loop) .stands) ((c .before .before .before .before .before .before .before .before .before .before .before .before .before .before .keep) .last .1 .1 .0) ((c .before .before .before .before .before .before .before .before .before .before .before .before .before .before .before .before .before .before .before .before .before .before .before .before .before .before .before .before .before .before .before .before .event-at) .result .task) (standingNo ((c .before .before .before .before .before .before .before .before .before .before .before .before .before .before .before .before .before .before .before .before .edited) .result .task .standing)) ((c .before .before .before .before .before .before .before .before .before .before .before .before .before .before .keep) .ensures .2) (ap length ((c .before .before .before .before .before .before .before .before .before .before .before .before .before .before .before .before .before .before .before .before .before .before .before .before .before .before .before .before .before .before .before .before .before .before .loop) .inv .2 .stood) ∙ table-length _ mostTasks)
+array-set-from-groups-2 c = (c .before .before .before .before .before .before .before .before .before .before .before .before .before .before .place-in) .ensures .0
 
 keep-requires-2 : tie.Need-keep-requires-2 Inv-loop μ-loop
-keep-requires-2 c κs = search needs
+keep-requires-2 c κs = heir-in (c .before .before .before .before .before) .0
 
 moved-requires-2 : tie.Need-moved-requires-2 Inv-loop μ-loop
-moved-requires-2 c κs = next-moves (accepts (c .before .before .before .before .before .before .before .before .before .before .before .before .before .before .before .before .before .before .before .before .before .before .before .before .before .before .before .before .before .before .before)) ((c .before .before .before .before .before .before .before .before .before .before .before .before .before .before .before .before .before .before .before .before .before .before .before .before .before .before .before .place-in) .result) ((c .before .before .before .before .before .before .before .before .before .before .before .before .before .before .before .before .before .before .before .before .before .before .before .before .before .before .before .place-in) .ensures .0) (placed-at (c .before .before .before .before .before .before .before .before .before .before .before .before .before .before .before .before .before .before .before .before .before .before .before .before .before .before .before)) ((c .before .before .before .before .before .before .before .before .before .before .before .before .before .before .before .before .before .before .before .before .before .before .before .before .edited) .result) (edit-is (c .before .before .before .before .before .before .before .before .before .before .before .before .before .before .before .before .before .before .before .before .before .before .before .before)) ((c .before .before .before .before .before .before .before .before .before .before .before .before .before .before .before .before .before .before .keep) .last .0) ((c .before .before .before .before .before .before .before .before .before .before .before .before .before .before .before .before .before .before .keep) .last .1 .0) ((c .before .before .before .before .before .before .before .before .before .before .before .before .before .before .before .before .before .before .keep) .last .1 .1 .0) ((c .before .before .before .before .before .before .before .before .before .before .before .before .before .before .before .before .before .before .keep) .ensures .0) ((c .before .before .before .before .before .before .before .before .before .before .before .before .before .before .before .before .before .before .keep) .ensures .1) ((c .before .before .before .before .before .before .before .before .before .before .before .before .before .before .before .before .before .before .keep) .ensures .2) ((c .before .before .before .before .before .before .before .before .before .before .before .before .before .before .moved) .result) ((c .before .before .before .before .before .before .before .before .before .before .before .before .before .before .moved) .ensures) ((c .before .before .before .before .before .before .before .before .before .before .before .before .if3) .taken) ((c .before .before .before .before .before .before .before .before .before .hand-over) .result) (heir-is (c .before .before .before .before .before .before .before .before .before)) ((c .before .before .before .keep2) .last .0) ((c .before .before .before .keep2) .last .1 .0) ((c .before .before .before .keep2) .last .1 .1 .0) ((c .before .before .before .keep2) .ensures .0) ((c .before .before .before .keep2) .ensures .1) ((c .before .before .before .keep2) .ensures .2)
+moved-requires-2 c κs = next-moves (accepts (c .before .before .before .before .before .before .before .before .before .before .before .before .before .before .before .before .before .before .before .before)) ((c .before .before .before .before .before .before .before .before .before .before .before .before .before .before .before .place-in) .result) ((c .before .before .before .before .before .before .before .before .before .before .before .before .before .before .before .place-in) .ensures .0) (placed-at (c .before .before .before .before .before .before .before .before .before .before .before .before .before .before .before)) ((c .before .before .before .before .before .before .before .before .before .before .before .before .edited) .result) (edit-is (c .before .before .before .before .before .before .before .before .before .before .before .before)) ((c .before .before .before .before .before .before .before .before .before .keep) .result .own) ((c .before .before .before .before .before .before .before .before .before .keep) .result .modes) ((c .before .before .before .before .before .before .before .before .before .keep) .result .stands) (ap (λ (k : Kept). k .own) ((c .before .before .before .before .before .before .before .before .before .keep) .ensures)) (ap (λ (k : Kept). k .modes) ((c .before .before .before .before .before .before .before .before .before .keep) .ensures)) (ap (λ (k : Kept). k .stands) ((c .before .before .before .before .before .before .before .before .before .keep) .ensures)) ((c .before .before .before .before .before .before .before .before .moved) .result) ((c .before .before .before .before .before .before .before .before .moved) .ensures) ((c .before .before .before .before .before .before .if3) .taken) ((c .before .before .before .hand-over) .result) (heir-is (c .before .before .before)) ((c .keep2) .result .own) ((c .keep2) .result .modes) ((c .keep2) .result .stands) (ap (λ (k : Kept). k .own) ((c .keep2) .ensures)) (ap (λ (k : Kept). k .modes) ((c .keep2) .ensures)) (ap (λ (k : Kept). k .stands) ((c .keep2) .ensures))
 
 line-of-requires : tie.Need-line-of-requires Inv-loop μ-loop
 line-of-requires c κs = search needs
 
 put-line-requires : tie.Need-put-line-requires Inv-loop μ-loop
-put-line-requires c κs = rw ((c .before .before .before .before .before .before .before .before .loop) .inv .1, (c .before .before .before .before .before .before .before .before .loop) .inv .3) (room-along ((c .before .before .before .before .before .before .before .before .before .before .before .before .before .before .before .before .before .before .before .before .before .before) .args .state) ((c .before .before .before .before .before .before .before .before .before .before .before .before .before .before .before .before .before .before .before .before .before .before) .args .part .now) ((c .before .before .before .before .before .before .before .before .before .before .before .before .before .before .before .before .before .before .before .before .before .before) .args .out .now) ((c .before .before .before .before .before .before .before .before .loop) .i) (omega (arith, (c .before .before .before .before .before .before .before .loop-test) .taken, (c .before .before .before .before .before .before .before .before .before .before .before .before .before .before .before .before .before .before .before .before .before .before) .pre .1)))
+put-line-requires c κs = rw ((c .before .before .before .before .before .before .before .before .loop) .inv .1, (c .before .before .before .before .before .before .before .before .loop) .inv .3) (room-along ((c .before .before .before .before .before .before .before .before .before .before .before .before .before .before .before .before .before .before .before) .args .state) ((c .before .before .before .before .before .before .before .before .before .before .before .before .before .before .before .before .before .before .before) .args .part .now) ((c .before .before .before .before .before .before .before .before .before .before .before .before .before .before .before .before .before .before .before) .args .out .now) ((c .before .before .before .before .before .before .before .before .loop) .i) (omega (arith, (c .before .before .before .before .before .before .before .loop-test) .taken, (c .before .before .before .before .before .before .before .before .before .before .before .before .before .before .before .before .before .before .before) .pre .1)))
 
 add-i : tie.Need-add-i Inv-loop μ-loop
 add-i c = search needs
@@ -326,22 +301,22 @@ loop-again c =
     let s = reached (c .before .before .before .before .before .before .before .before .before .before .before) in
     let e = (c .before .before .before .before .before .before .before .before .before .event-at) .result in
     let K = goes-on (c .before .before .before .before .before) in
-    let replied : step s e .state ≡ step s (eventIn ((c .before .before .before .before .before .before .before .before .before .before .before .before .before .before .before .before .before .before .before .before .before .before .before .before .before) .args .part .now) (o .i)) .state = ap (λ (x : Event). step s x .state) ((c .before .before .before .before .before .before .before .before .before .event-at) .ensures) in
-    let said : (c .before .before .before .before .before .before .judge-parts) .result ≡ step s (eventIn ((c .before .before .before .before .before .before .before .before .before .before .before .before .before .before .before .before .before .before .before .before .before .before .before .before .before) .args .part .now) (o .i)) .answer = answered (c .before .before .before .before .before) ∙ sym (step-answer s e) ∙ ap (λ (x : Event). step s x .answer) ((c .before .before .before .before .before .before .before .before .before .event-at) .ensures) in (
+    let replied : step s e .state ≡ step s (eventIn ((c .before .before .before .before .before .before .before .before .before .before .before .before .before .before .before .before .before .before .before .before .before .before) .args .part .now) (o .i)) .state = ap (λ (x : Event). step s x .state) ((c .before .before .before .before .before .before .before .before .before .event-at) .ensures) in
+    let said : (c .before .before .before .before .before .before .judge-parts) .result ≡ step s (eventIn ((c .before .before .before .before .before .before .before .before .before .before .before .before .before .before .before .before .before .before .before .before .before .before) .args .part .now) (o .i)) .answer = answered (c .before .before .before .before .before) ∙ sym (step-answer s e) ∙ ap (λ (x : Event). step s x .answer) ((c .before .before .before .before .before .before .before .before .before .event-at) .ensures) in (
       omega (arith, (c .before .before .before .before .before .before .before .before .before .before .loop-test) .taken),
       omega (arith, (c .before .before .put-line) .ensures .0, o .inv .1),
-      subst (λ (x : State). Keeps x ((c .before .before .before .before .before .if2) .clock) ((c .before .before .before .before .before .if2) .tasks) ((c .before .before .before .before .before .if2) .groups) ((c .before .before .before .before .before .if2) .p) ((c .before .before .before .before .before .if2) .totals) ((c .before .before .before .before .before .if2) .own) ((c .before .before .before .before .before .if2) .modes) ((c .before .before .before .before .before .if2) .stands)) (played-turn ((c .before .before .before .before .before .before .before .before .before .before .before .before .before .before .before .before .before .before .before .before .before .before .before .before .before) .args .state) ((c .before .before .before .before .before .before .before .before .before .before .before .before .before .before .before .before .before .before .before .before .before .before .before .before .before) .args .part .now) (o .i) (step s e .state) replied) K,
-      (rw (o .inv .1, o .inv .3) at ((c .before .before .put-line) .ensures .1)) ∙ buffer-turn ((c .before .before .before .before .before .before .before .before .before .before .before .before .before .before .before .before .before .before .before .before .before .before .before .before .before) .args .state) ((c .before .before .before .before .before .before .before .before .before .before .before .before .before .before .before .before .before .before .before .before .before .before .before .before .before) .args .part .now) ((c .before .before .before .before .before .before .before .before .before .before .before .before .before .before .before .before .before .before .before .before .before .before .before .before .before) .args .out .now) (o .i) ((c .before .before .before .before .before .before .judge-parts) .result) (step s e .state) ((c .before .before .before .line-of) .result) said replied ((c .before .before .before .line-of) .ensures ∙ ap (lineOf ((c .before .before .before .before .before .before .judge-parts) .result)) (K .placed)),
+      subst (λ (x : State). Keeps x ((c .before .before .before .before .before .if2) .clock) ((c .before .before .before .before .before .if2) .tasks) ((c .before .before .before .before .before .if2) .groups) ((c .before .before .before .before .before .if2) .p) ((c .before .before .before .before .before .if2) .totals) ((c .before .before .before .before .before .if2) .kept .own) ((c .before .before .before .before .before .if2) .kept .modes) ((c .before .before .before .before .before .if2) .kept .stands)) (played-turn ((c .before .before .before .before .before .before .before .before .before .before .before .before .before .before .before .before .before .before .before .before .before .before) .args .state) ((c .before .before .before .before .before .before .before .before .before .before .before .before .before .before .before .before .before .before .before .before .before .before) .args .part .now) (o .i) (step s e .state) replied) K,
+      (rw (o .inv .1, o .inv .3) at ((c .before .before .put-line) .ensures .1)) ∙ buffer-turn ((c .before .before .before .before .before .before .before .before .before .before .before .before .before .before .before .before .before .before .before .before .before .before) .args .state) ((c .before .before .before .before .before .before .before .before .before .before .before .before .before .before .before .before .before .before .before .before .before .before) .args .part .now) ((c .before .before .before .before .before .before .before .before .before .before .before .before .before .before .before .before .before .before .before .before .before .before) .args .out .now) (o .i) ((c .before .before .before .before .before .before .judge-parts) .result) (step s e .state) ((c .before .before .before .line-of) .result) said replied ((c .before .before .before .line-of) .ensures ∙ ap (lineOf ((c .before .before .before .before .before .before .judge-parts) .result)) (K .placed)),
     )
 
 with-totals-requires : tie.Need-with-totals-requires Inv-loop μ-loop
 with-totals-requires c κs = search needs
 
 same-length : tie.Need-same-length Inv-loop μ-loop
-same-length c = ap length ((c .before .before .loop) .inv .3) ∙ long-along ((c .before .before .before .before .before .before .before .before .before .before .before .before .before .before .before .before) .args .state) ((c .before .before .before .before .before .before .before .before .before .before .before .before .before .before .before .before) .args .part .now) ((c .before .before .before .before .before .before .before .before .before .before .before .before .before .before .before .before) .args .out .now) ((c .before .before .loop) .i)
+same-length c = ap length ((c .before .before .loop) .inv .3) ∙ long-along ((c .before .before .before .before .before .before .before .before .before .before .before .before .before) .args .state) ((c .before .before .before .before .before .before .before .before .before .before .before .before .before) .args .part .now) ((c .before .before .before .before .before .before .before .before .before .before .before .before .before) .args .out .now) ((c .before .before .loop) .i)
 
 returns : tie.Need-returns Inv-loop μ-loop
-returns c = let o = (c .before .before .loop) in let all : o .i ≡ (c .before .before .before .before .before .before .before .before .before .before .before .before .before .before .before .before) .args .count = omega (arith, (c .before .loop-test) .left, o .inv .0) in (keeps-state _ _ _ _ _ _ _ _ _ (o .inv .2) _ _ (sym (kept-along ((c .before .before .before .before .before .before .before .before .before .before .before .before .before .before .before .before) .args .state) ((c .before .before .before .before .before .before .before .before .before .before .before .before .before .before .before .before) .args .part .now) (whole (c .before .before)) (o .i) .1)) ((c .with-totals) .ensures) ∙ ap (playedTo ((c .before .before .before .before .before .before .before .before .before .before .before .before .before .before .before .before) .args .state) ((c .before .before .before .before .before .before .before .before .before .before .before .before .before .before .before .before) .args .part .now)) all, o .inv .3 ∙ ap (writtenTo ((c .before .before .before .before .before .before .before .before .before .before .before .before .before .before .before .before) .args .state) ((c .before .before .before .before .before .before .before .before .before .before .before .before .before .before .before .before) .args .part .now) ((c .before .before .before .before .before .before .before .before .before .before .before .before .before .before .before .before) .args .out .now)) all)
+returns c = let o = (c .before .before .loop) in let all : o .i ≡ (c .before .before .before .before .before .before .before .before .before .before .before .before .before) .args .count = omega (arith, (c .before .loop-test) .left, o .inv .0) in (keeps-state _ _ _ _ _ _ _ _ _ (o .inv .2) _ _ (sym (kept-along ((c .before .before .before .before .before .before .before .before .before .before .before .before .before) .args .state) ((c .before .before .before .before .before .before .before .before .before .before .before .before .before) .args .part .now) (whole (c .before .before)) (o .i) .1)) ((c .with-totals) .ensures) ∙ ap (playedTo ((c .before .before .before .before .before .before .before .before .before .before .before .before .before) .args .state) ((c .before .before .before .before .before .before .before .before .before .before .before .before .before) .args .part .now)) all, o .inv .3 ∙ ap (writtenTo ((c .before .before .before .before .before .before .before .before .before .before .before .before .before) .args .state) ((c .before .before .before .before .before .before .before .before .before .before .before .before .before) .args .part .now) ((c .before .before .before .before .before .before .before .before .before .before .before .before .before) .args .out .now)) all)
 
 pub play-events-spec : {M : Type 1} → statement M
 play-events-spec =
@@ -350,9 +325,7 @@ play-events-spec =
     Inv-loop
     μ-loop
     totals-of-requires
-    own-ranks-requires
-    modes-of-requires
-    stands-of-requires
+    kept-of-requires
     loop-holds
     event-at-requires
     cast-t
@@ -368,15 +341,13 @@ play-events-spec =
     place-in-requires
     mul-held
     array-copy-out-held
-    period-at-requires
+    mul-edited
+    element-copy-out-edited
     edited-requires
     mul-tasks
     array-set-from-tasks
     mul-groups
     array-set-from-groups
-    slice-aggregate-keep
-    slice-aggregate-keep-2
-    slice-aggregate-keep-3
     keep-requires
     moved-requires
     cast-u
@@ -387,9 +358,6 @@ play-events-spec =
     array-set-from-tasks-2
     mul-groups-2
     array-set-from-groups-2
-    slice-aggregate-keep-4
-    slice-aggregate-keep-5
-    slice-aggregate-keep-6
     keep-requires-2
     moved-requires-2
     line-of-requires
