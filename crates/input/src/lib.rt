@@ -37,10 +37,6 @@ impl SetUp {
     pub const RESOURCES: usize = 32;
 
     pub const PAIRS: usize = 64;
-    // Past the last task, and past the last resource, as numbers of either.
-    pub const TASK_END: u8 = SetUp::TASKS as u8;
-
-    pub const RESOURCE_END: u8 = SetUp::RESOURCES as u8;
     // The kinds of resource.
     pub const SHORT: u8 = 0;
 

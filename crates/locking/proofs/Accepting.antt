@@ -23,7 +23,7 @@ use Rattle.input.specs.Kinds.{arrival, finish, request as asking, completion, p
 use Rattle.input.specs.declared.SetUp.{SetUp}
 use Rattle.input.specs.declared.Event.{Event}
 use Rattle.setups.specs.Naming.{names, groupOf}
-use Rattle.protocol.specs.Words.{nobody, absent, mostRequests, lastClock, noTask, noGroup, standingNo, stand, sum, task, group, deadline, depth}
+use Rattle.protocol.specs.Words.{nobody, absent, mostRequests, lastClock, noTask, noGroup, standingNo, stand, task, group, deadline, depth}
 use Rattle.protocol.specs.Ranks.{modeFor, jobs}
 use Rattle.protocol.specs.declared.Lock.the-variants.{Short, Long}
 use Rattle.protocol.specs.declared.Standing.{Standing}
@@ -31,7 +31,7 @@ use Rattle.protocol.specs.Refusals.{stepOf, judge}
 use Rattle.queue.specs.Waiting.{waiter, appended}
 use Rattle.protocol.specs.Locks.{standingAs, opening, closing, arriving, departing, lockOf}
 use Rattle.protocol.specs.declared.Standing.the-variants.{Absent, Active, Waiting}
-use Rattle.protocol.specs.Events.{withProcessors, charged, cold, act, stepBy, step}
+use Rattle.protocol.specs.Events.{withProcessors, charged, stepBy, step}
 use Rattle.protocol.specs.declared.Task.{Task}
 use Rattle.protocol.specs.declared.Group.{Group}
 use Rattle.protocol.specs.declared.State.{State}
@@ -40,7 +40,7 @@ use Rattle.protocol.proofs.Step.{grouped, event-kinds, row11}
 use Rattle.locking.specs.Acting.{CanAct}
 use Rattle.views.specs.Bounds.{latest, isBounded, rankBy, modeIn, rankWith}
 use Rattle.views.proofs.Bounding.{deadline-bounded}
-use Rattle.locking.specs.Edits.{arrive, leave, stay, soften, giveWay, openIn, keeping, requesting, completing, editing, handing, put, stored, movedWith, movedBy, handed, editOf, acted}
+use Rattle.locking.specs.Edits.{arrive, leave, stay, soften, giveWay, openIn, keeping, requesting, completing, editing, handing, stored, movedWith, movedBy, handed, editOf, acted}
 use Rattle.locking.specs.Totals.{CanCharge, rowOf, totalsAs, chargedTo}
 use Rattle.locking.specs.Keeping.{Keeps}
 use Rattle.locking.specs.declared.acting.Edit.{Edit}

@@ -15,7 +15,7 @@ use Rattle.processors.specs.Words.{told}
 use Rattle.processors.specs.declared.Processors.{Processors}
 use Rattle.input.specs.Limits.{mostTasks, mostResources}
 use Rattle.input.specs.declared.SetUp.{SetUp}
-use Rattle.protocol.specs.Words.{absent, totalCount, noTask, standingNo, stand, task}
+use Rattle.protocol.specs.Words.{absent, noTask, standingNo, stand, task}
 use Rattle.protocol.specs.Ranks.{effective, jobs}
 use Rattle.protocol.specs.Situations.{situation, totalOf}
 use Rattle.protocol.specs.Events.{withProcessors, counting, charged}

@@ -1,6 +1,6 @@
 -- A part of one event gives the answer and the state of the rule. Assumes nothing.
 use borrow.Author.Needs.{needs}
-use mathlib.Core.Path.{_≡_, refl, ap, _∙_}
+use mathlib.Core.Path.{refl, ap, _∙_}
 use mathlib.Core.List.{List}
 use Prim.Native.Nat.{ℕ}
 use lib.ListN.{getD}
@@ -8,10 +8,6 @@ use Rattle.locking.specs.declared.Played.{Played}
 use Rattle.locking.proofs.Along.{one-state, one-answer}
 use Rattle.locking.proofs.events.step.Statement.{statement}
 use Rattle.locking.proofs.events.step.Tie as tie
-use Rattle.locking.proofs.events.step.Reads as reads
-use Rattle.locking.proofs.events.step.Lts as lts
-use Rattle.input.proofs.event_bytes.Reads as event-bytes-reads
-use Rattle.locking.proofs.playing.play.Reads as play-reads
 
 event-bytes-requires : tie.Need-event-bytes-requires
 event-bytes-requires c κs = search needs

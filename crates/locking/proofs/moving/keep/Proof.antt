@@ -1,13 +1,6 @@
 use borrow.Author.Needs.{needs}
-use mathlib.Core.Path.{_≡_, refl, sym, ap, _∙_}
-use native.Mathlib.Omega.{arith}
 use Rattle.locking.proofs.moving.keep.Statement.{statement}
 use Rattle.locking.proofs.moving.keep.Tie as tie
-use Rattle.locking.proofs.moving.keep.Reads as reads
-use Rattle.locking.proofs.moving.keep.Lts as lts
-use Rattle.states.proofs.stand_of.Reads as stand-of-reads
-use Rattle.views.proofs.mode_in.Reads as mode-in-reads
-use Rattle.views.proofs.own_rank.Reads as own-rank-reads
 
 own-rank-requires : tie.Need-own-rank-requires
 own-rank-requires c κs = search needs

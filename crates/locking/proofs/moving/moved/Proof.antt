@@ -1,17 +1,8 @@
 use borrow.Author.Needs.{needs}
-use mathlib.Core.Path.{_≡_, refl, sym, ap, _∙_}
-use native.Mathlib.Omega.{arith}
 use mathlib.Core.Logic.{inl, inr}
 use borrow.Author.Tests.{ne-eqb}
 use Rattle.locking.proofs.moving.moved.Statement.{statement}
 use Rattle.locking.proofs.moving.moved.Tie as tie
-use Rattle.locking.proofs.moving.moved.Reads as reads
-use Rattle.locking.proofs.moving.moved.Lts as lts
-use Rattle.scheduler.proofs.arrive.Reads as arrive-reads
-use Rattle.scheduler.proofs.become_preemptable.Reads as become-preemptable-reads
-use Rattle.scheduler.proofs.give_way.Reads as give-way-reads
-use Rattle.scheduler.proofs.leave.Reads as leave-reads
-use Rattle.views.proofs.ranks_of.Reads as ranks-of-reads
 
 returns : tie.Need-returns
 returns c = rw ((c .if1) .taken)

@@ -7,7 +7,6 @@ use mathlib.Core.List.{List}
 use mathlib.Core.Logic.{⊎-elim}
 use native.Mathlib.Omega.{arith}
 use lib.ListN.{length, getD, set, length-set, List·getD-eq-default}
-use Rattle.search.proofs.Tables.{table-length}
 use Rattle.processors.specs.declared.Processors.{Processors}
 use Rattle.input.specs.Limits.{mostTasks, mostResources}
 use Rattle.input.specs.Kinds.{request as asking, completion}
@@ -16,7 +15,7 @@ use Rattle.input.specs.declared.Event.{Event}
 use Rattle.setups.specs.Naming.{names}
 use Rattle.input.specs.Words.{period}
 use Rattle.input.specs.declared.SetUp.{SetUp}
-use Rattle.protocol.specs.Words.{mostRequests, nobody, noTask, noGroup, standingNo, task}
+use Rattle.protocol.specs.Words.{mostRequests, nobody, noTask, noGroup, task}
 use Rattle.protocol.specs.Refusals.{ticksTo, judge}
 use Rattle.protocol.specs.Events.{step}
 use Rattle.protocol.specs.declared.Task.{Task}
@@ -26,7 +25,6 @@ use Rattle.protocol.proofs.Reflect.{Shaped, sound-of-test}
 use Rattle.tables.proofs.Reading.{task-read, group-read}
 use Rattle.states.specs.Writing.{lineSize, lineOf}
 use Rattle.soundness.specs.declared.Tested.{Tested}
-use Rattle.views.specs.Bounds.{rankBy, modeIn}
 use Rattle.locking.specs.Edits.{editing, handing}
 use Rattle.locking.specs.Keeping.{Keeps}
 use Rattle.locking.specs.Playing.{playedTo, writtenTo}
@@ -41,23 +39,6 @@ use Rattle.locking.proofs.Shapes.{shaped, periods-short}
 use Rattle.locking.proofs.Totals.{counted-length}
 use Rattle.locking.proofs.playing.play_events.Statement.{statement}
 use Rattle.locking.proofs.playing.play_events.Tie as tie
-use Rattle.locking.proofs.playing.play_events.Reads as reads
-use Rattle.locking.proofs.playing.play_events.Lts as lts
-use Rattle.input.proofs.event_at.Reads as event-at-reads
-use Rattle.locking.proofs.acting.edited.Reads as edited-reads
-use Rattle.locking.proofs.acting.hand_over.Reads as hand-over-reads
-use Rattle.locking.proofs.clock.step_to.Reads as step-to-reads
-use Rattle.locking.proofs.counting.charge.Reads as charge-reads
-use Rattle.locking.proofs.counting.totals_of.Reads as totals-of-reads
-use Rattle.locking.proofs.counting.with_totals.Reads as with-totals-reads
-use Rattle.locking.proofs.judging.judge_parts.Reads as judge-parts-reads
-use Rattle.locking.proofs.moving.keep.Reads as keep-reads
-use Rattle.locking.proofs.moving.kept_of.Reads as kept-of-reads
-use Rattle.locking.proofs.moving.moved.Reads as moved-reads
-use Rattle.locking.proofs.playing.place_in.Reads as place-in-reads
-use Rattle.locking.proofs.playing.put_line.Reads as put-line-reads
-use Rattle.states.proofs.line_of.Reads as line-of-reads
-use Rattle.tables.proofs.no_task.Reads as no-task-reads
 
 -- the state that the parts were taken from, and the one after the events so far
 abbrev begun : SetUp → ℕ → List Task → List Group → Processors → State
