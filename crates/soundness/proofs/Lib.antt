@@ -1,2 +1,3 @@
+pub mod Lengths
 pub mod Tabled
 pub mod Within

@@ -15,6 +15,7 @@ use Rattle.protocol.specs.declared.Task.{Task}
 use Rattle.protocol.specs.declared.Group.{Group}
 use Rattle.protocol.specs.declared.State.{State}
 use Rattle.tables.proofs.Reading.{task-read, group-read}
+use Rattle.soundness.proofs.Lengths.{tasks-long, groups-long}
 use Rattle.soundness.proofs.Tabled.{stand-in, asked-in}
 use Rattle.soundness.proofs.Within.{depth-within}
 use Rattle.soundness.proofs.groups.all_groups.Statement.{statement}
@@ -67,7 +68,7 @@ group-holds-requires c κs =
     let s = start .args .t1 in
     let a = c .before .before .before .before .loop in
     let h = holderRead s (a .g) in
-    let tasked : length (s .tasks) ≡ mostTasks = simp length-map at (start .good .0 .1 .1 .1 .1 .0 .1 .0 .1) in
+    let tasked : length (s .tasks) ≡ mostTasks = tasks-long s _ (start .good .0) in
     let there : c .if1 .task ≡ task s h =
     ⊎-elim
     (λ w. w .2 ∙ task-read (s .tasks) h (omega arith))
@@ -88,8 +89,8 @@ loop-again c =
     let s = start .args .t1 in
     let a = c .before .before .before .before .before .loop in
     let h = holderRead s (a .g) in
-    let tasked : length (s .tasks) ≡ mostTasks = simp length-map at (start .good .0 .1 .1 .1 .1 .0 .1 .0 .1) in
-    let grouped : length (s .groups) ≡ mostResources = simp length-map at (start .good .0 .1 .1 .1 .1 .1 .0 .1 .0 .1) in
+    let tasked : length (s .tasks) ≡ mostTasks = tasks-long s _ (start .good .0) in
+    let grouped : length (s .groups) ≡ mostResources = groups-long s _ (start .good .0) in
     let there : c .before .if1 .task ≡ task s h =
     ⊎-elim
     (λ w. w .2 ∙ task-read (s .tasks) h (omega arith))

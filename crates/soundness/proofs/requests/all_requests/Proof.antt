@@ -3,13 +3,14 @@ use Prim.Native.Nat.{ℕ, _≤_, _-_}
 use mathlib.Core.Path.{_≡_, refl}
 use native.Mathlib.Omega.{arith}
 use native.Mathlib.Numerals.{add-one}
-use lib.ListN.{length, getD, length-map}
+use lib.ListN.{length, getD}
 use borrow.Author.Needs.{needs}
 use Rattle.search.specs.Below.{allBelow}
 use Rattle.input.specs.Limits.{mostTasks, mostResources}
 use Rattle.protocol.specs.Words.{nobody, holder}
 use Rattle.protocol.specs.Sound.{requestsSound}
 use Rattle.tables.proofs.Reading.{task-read}
+use Rattle.soundness.proofs.Lengths.{tasks-long, groups-long}
 use Rattle.soundness.proofs.Tabled.{holder-in}
 use Rattle.soundness.proofs.requests.all_requests.Statement.{statement}
 use Rattle.soundness.proofs.requests.all_requests.Tie as tie
@@ -48,8 +49,8 @@ loop-again c =
     let start = c .before .before .before .before .before .before in
     let s = start .args .t1 in
     let a = c .before .before .before .loop in
-    let tasked : length (s .tasks) ≡ mostTasks = simp length-map at (start .good .0 .1 .1 .1 .1 .0 .1 .0 .1) in
-    let grouped : length (s .groups) ≡ mostResources = simp length-map at (start .good .0 .1 .1 .1 .1 .1 .0 .1 .0 .1) in
+    let tasked : length (s .tasks) ≡ mostTasks = tasks-long s _ (start .good .0) in
+    let grouped : length (s .groups) ≡ mostResources = groups-long s _ (start .good .0) in
     let held : (g : ℕ) → getD (start .args .holders) g nobody ≡ holder s g = λ g. rw (start .pre .1) (holder-in s grouped g) in
     (search needs, rw (add-one, a .inv .1, c .requests-hold .ensures s (task-read (s .tasks) (a .t) (omega arith)) refl refl (start .pre .0) held))
 

@@ -15,6 +15,7 @@ use Rattle.protocol.specs.Sound.{waitingSound}
 use Rattle.protocol.specs.declared.Task.{Task}
 use Rattle.protocol.specs.declared.Group.{Group}
 use Rattle.tables.proofs.Reading.{task-read, group-read}
+use Rattle.soundness.proofs.Lengths.{tasks-long, groups-long}
 use Rattle.soundness.proofs.requests.all_waiting.Statement.{statement}
 use Rattle.soundness.proofs.requests.all_waiting.Tie as tie
 
@@ -73,8 +74,8 @@ loop-again c =
     let start = c .before .before .before .before .before .before .before .before .before .before .before in
     let s = start .args .t1 in
     let a = c .before .before .before .before .before .before .before .before .loop in
-    let tasked : length (s .tasks) ≡ mostTasks = simp length-map at (start .good .0 .1 .1 .1 .1 .0 .1 .0 .1) in
-    let grouped : length (s .groups) ≡ mostResources = simp length-map at (start .good .0 .1 .1 .1 .1 .1 .0 .1 .0 .1) in
+    let tasked : length (s .tasks) ≡ mostTasks = tasks-long s _ (start .good .0) in
+    let grouped : length (s .groups) ≡ mostResources = groups-long s _ (start .good .0) in
     let read = task-read (s .tasks) (a .t) (omega arith) in
     let standing : c .before .before .before .before .before .stand-of .result ≡ stand s (a .t) = c .before .before .before .before .before .stand-of .ensures ∙ ap (λ (x : Task). standingNo (x .standing)) read in
     let asking : c .before .before .before .before .asked-of .result ≡ asked s (a .t) = c .before .before .before .before .asked-of .ensures ∙ ap (λ (x : Task). askedOf (x .standing)) read in

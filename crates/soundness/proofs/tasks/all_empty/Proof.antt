@@ -3,12 +3,12 @@ use Prim.Native.Nat.{_≤_, _-_}
 use mathlib.Core.Path.{_≡_, refl}
 use native.Mathlib.Omega.{arith}
 use native.Mathlib.Numerals.{add-one}
-use lib.ListN.{length, length-map}
 use borrow.Author.Needs.{needs}
 use Rattle.search.specs.Below.{allBelow}
 use Rattle.input.specs.Limits.{mostTasks}
 use Rattle.protocol.specs.Sound.{emptySound}
 use Rattle.tables.proofs.Reading.{task-read}
+use Rattle.soundness.proofs.Lengths.{tasks-long}
 use Rattle.soundness.proofs.tasks.all_empty.Statement.{statement}
 use Rattle.soundness.proofs.tasks.all_empty.Tie as tie
 
@@ -43,8 +43,7 @@ loop-again c =
     let start = c .before .before .before .before .before .before in
     let s = start .args .t1 in
     let a = c .before .before .before .before .loop in
-    let tasked : length (s .tasks) ≡ mostTasks = simp length-map at (start .good .0 .1 .1 .1 .1 .0 .1 .0 .1) in
-    (search needs, rw (add-one, a .inv .1, c .empty-holds .ensures s (a .t) (task-read (s .tasks) (a .t) (omega arith)) refl))
+    (search needs, rw (add-one, a .inv .1, c .empty-holds .ensures s (a .t) (task-read (s .tasks) (a .t) (omega (arith, tasks-long s _ (start .good .0)))) refl))
 
 returns : tie.Need-returns Inv-loop μ-loop
 returns c =
