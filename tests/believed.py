@@ -68,7 +68,7 @@ PARTS = {
         'setups': 'Sized',
         'protocol': 'Edited',
         'soundness': 'Opens',
-        'locking': 'Acting Steps',
+        'locking': 'Acting Edits Keeping Steps Totals',
         'scenario': 'Reads',
     },
 }
