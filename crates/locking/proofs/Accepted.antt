@@ -9,7 +9,7 @@ use Rattle.search.proofs.Tests.{tests}
 use Rattle.search.specs.Numbered.{NoneApplies}
 use Rattle.search.proofs.Refusals.{none-iff}
 use Rattle.input.specs.Limits.{mostTasks, mostResources}
-use Rattle.setups.specs.Naming.{names, groupOf}
+use Rattle.setups.specs.Naming.{groupOf}
 use Rattle.input.specs.Kinds.{request as asking, completion, passing, fieldsOf}
 use Rattle.input.specs.Words.{period}
 use Rattle.input.specs.declared.Event.{Event}
@@ -106,13 +106,12 @@ module _ (s : State) (e : Event) (Q : Sound s) (ok : judge s e ≡ 0) where
       let t-in = L .tasks u .inside (λ q. absurd (omega (arith, q))) in
       record { inside = omega (arith, t-in, grouped s e Q ok .few-tasks); room = L .tasks u .waits waits .room }
 
-  pub can-act : ((t : ℕ) → period (s .setup) t < 65536) → CanAct s₁ (names (s .setup)) e
+  pub can-act : ((t : ℕ) → period (s .setup) t < 65536) → CanAct s₁ e
   unfolding charged
   can-act short =
       let G = grouped s e Q ok in
       record {
         bounded = charged-bounded short;
-        naming = refl;
         inside = inside;
         asks = λ k. record { inside = inside; placed = g-in (omega arith); room = asks-of s e Q ok k .room };
         completes = λ k. record { inside = inside; placed = g-in (omega arith); some = (let E = ends-of s e Q ok k in omega (arith, E .some)); few = steady-of s e Q ok .locks .tasks (e .task) .opened .few; next = can-pass (groupOf (s .setup) (e .resource)) };

@@ -163,7 +163,7 @@ module _ (s : State) (e : Event) (Q : Sound s) (ok : judge s e ≡ 0) (short-per
   keeps₁ : Keeps s₁ (clock + n) ts gs p w own modes stands
   keeps₁ = keeps-charge s clock ts gs p totals own modes stands K n (s .setup .tasks) few quiet
 
-  can : CanAct s₁ (names (s .setup)) e
+  can : CanAct s₁ e
   can = can-act s e Q ok short-periods
 
   t-in : t < mostTasks
@@ -181,7 +181,7 @@ module _ (s : State) (e : Event) (Q : Sound s) (ok : judge s e ≡ 0) (short-per
   t-read = keeps-task s₁ (clock + n) ts gs p w own modes stands keeps₁ t t-in
 
   pub edit-may : (e .kind ≡ asking → getD ts t noTask .depth < mostRequests) × (e .kind ≡ completion → (0 < getD ts t noTask .depth) × (getD ts t noTask .depth ≤ mostRequests))
-  edit-may = subst (λ (x : Task). (e .kind ≡ asking → x .depth < mostRequests) × (e .kind ≡ completion → (0 < x .depth) × (x .depth ≤ mostRequests))) t-read (edit-needs s₁ e (names (s .setup)) can)
+  edit-may = subst (λ (x : Task). (e .kind ≡ asking → x .depth < mostRequests) × (e .kind ≡ completion → (0 < x .depth) × (x .depth ≤ mostRequests))) t-read (edit-needs s₁ e can)
 
   -- ---- the first edit
   abbrev d : Edit
@@ -265,7 +265,7 @@ module _ (s : State) (e : Event) (Q : Sound s) (ok : judge s e ≡ 0) (short-per
 
     ends : acted e g s₁ ≡ step s e .state
     unfolding charged step stepBy
-    ends = acted-act s₁ e (names (s .setup)) can tasks-long groups-long g g-is ∙ sym (rw (eq-eqb (judge s e) 0 ok))
+    ends = acted-act s₁ e can tasks-long groups-long g g-is ∙ sym (rw (eq-eqb (judge s e) 0 ok))
 
     -- nobody is handed the group
     pub ends-there : d .next ≡ nobody → s₃ ≡ step s e .state
@@ -285,14 +285,14 @@ module _ (s : State) (e : Event) (Q : Sound s) (ok : judge s e ≡ 0) (short-per
 
       pub u-in : u < mostTasks
       unfolding charged
-      u-in = subst (λ (v : ℕ). v < mostTasks) u-is (next-in s₁ e (names (s .setup)) can g g-is some₁ .0)
+      u-in = subst (λ (v : ℕ). v < mostTasks) u-is (next-in s₁ e can g g-is some₁ .0)
 
       u-read : task s₃ u ≡ totalsAs (rowOf w u) (getD ts₂ u noTask)
       u-read = keeps-task s₃ (clock + n) ts₂ gs₂ p₃ w own₂ modes₂ stands₂ keeps₃ u u-in
 
       pub heir-may : getD ts₂ u noTask .depth < mostRequests
       unfolding charged
-      heir-may = subst (λ (x : Task). x .depth < mostRequests) (ap (task s₃) u-is ∙ u-read) (next-room s₁ e (names (s .setup)) can g g-is some₁)
+      heir-may = subst (λ (x : Task). x .depth < mostRequests) (ap (task s₃) u-is ∙ u-read) (next-room s₁ e can g g-is some₁)
 
       abbrev d₄ : Edit
       d₄ = handing (getD ts₂ u noTask) (getD gs₂ g noGroup) (d .turn) u

@@ -89,23 +89,14 @@ module _ (kinds : List ℕ) (x : Task) (y : Group) (P : Edit → Type 0) where
     ]
   ]
 
--- no edit changes the totals, and none makes a deadline but an arrival
+-- no edit makes a deadline but an arrival
 module _ (kinds : List ℕ) (span clock : ℕ) (x : Task) (y : Group) (e : Event) where
-  pub edited-totals : editing kinds span clock x y e .task .totals ≡ x .totals
-  edited-totals =
-      let P : Edit → Type 0 = λ d. d .task .totals ≡ x .totals in
-      editing-by kinds x y P span clock e refl refl (λ s q n z turn. refl) (λ k. completing-by kinds x y P (e .resource) (λ z turn next. refl))
-
   pub edited-deadline : (m : ℕ) → x .deadline ≤ m → clock + span ≤ m → editing kinds span clock x y e .task .deadline ≤ m
   edited-deadline m had due =
       let P : Edit → Type 0 = λ d. d .task .deadline ≤ m in
       editing-by kinds x y P span clock e due (omega arith) (λ s q n z turn. had) (λ k. completing-by kinds x y P (e .resource) (λ z turn next. had))
 
 module _ (x : Task) (y : Group) (turn next : ℕ) where
-  pub handed-totals : handing x y turn next .task .totals ≡ x .totals
-  unfolding handing
-  handed-totals = refl
-
   pub handed-deadline : handing x y turn next .task .deadline ≡ x .deadline
   unfolding handing
   handed-deadline = refl
@@ -299,7 +290,7 @@ closing-depth l t u = elim (ℕ-discrete u t) [
 ]
 
 -- ---- the event of a task that may act, on the place g of its group where it has one
-module _ (s : State) (e : Event) (named : List ℕ) (can : CanAct s named e) where
+module _ (s : State) (e : Event) (can : CanAct s e) where
   -- what the edit of the records needs
   pub edit-needs : (e .kind ≡ asking → task s (e .task) .depth < mostRequests)
       × (e .kind ≡ completion → (0 < task s (e .task) .depth) × (task s (e .task) .depth ≤ mostRequests))

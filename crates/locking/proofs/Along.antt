@@ -7,25 +7,19 @@ use native.Mathlib.Numerals.{add-one}
 use native.Mathlib.Omega.{arith}
 use lib.ListN.{length, getD, set}
 use lib.Seq.{getD-set-same, getD-set-other}
-use Rattle.input.specs.Limits.{mostTasks}
 use Rattle.input.specs.Layout.{eventIn, eventCount, eventBytes}
 use Rattle.input.proofs.Bytes.{event-read}
 use Rattle.input.specs.declared.Event.{Event}
-use Rattle.setups.specs.Naming.{names}
 use Rattle.protocol.specs.Words.{mostRequests, task, depth}
 use Rattle.protocol.specs.Sound.{sound}
 use Rattle.protocol.specs.Events.{step}
 use Rattle.protocol.specs.declared.State.{State}
-use Rattle.protocol.specs.declared.Task.{Task}
 use Rattle.protocol.specs.declared.Reply.{Reply}
 use Rattle.protocol.proofs.Statements.{Sound}
 use Rattle.protocol.proofs.Reflect.{Shaped, sound-of-test, test-of-sound}
 use Rattle.protocol.proofs.Step.{step-sound, step-setup}
 use Rattle.processors.specs.Limits.{processors}
 use Rattle.states.specs.Writing.{lineSize, places, lineOf, written}
-use Rattle.soundness.specs.declared.Tested.{Tested}
-use Rattle.locking.specs.Totals.{totalsAs}
-use Rattle.locking.specs.Steps.{HasParts}
 use Rattle.locking.specs.Playing.{playable, playedTo, replyTo, writtenTo, played}
 use Rattle.locking.proofs.Accepted.{unsound-stepped}
 use Rattle.states.proofs.Writing.{written-long}
@@ -55,31 +49,9 @@ module _ (s : State) (part : List ℕ) where
       go true h = let K = sound-along (sound-of-test s Z h) n in (test-of-sound _ (K .0) ∙ sym h, K .1)
       go false h = let K = unsound-along h n in (ap sound K, ap (λ (x : State). x .setup) K)
 
-  pub tasks-along : Shaped s → (n : ℕ) → length (playedTo s part n .tasks) ≡ mostTasks
-  tasks-along Z n = go (sound s) refl
-    where
-      go : (b : Bool) → sound s ≡ b → length (playedTo s part n .tasks) ≡ mostTasks
-      go true h = sound-along (sound-of-test s Z h) n .0 .steady .sized .tasks
-      go false h = ap (λ (x : State). length (x .tasks)) (unsound-along h n) ∙ Z .sized .tasks
-
   pub few-along : Shaped s → (n : ℕ) → sound s ≡ true → (t : ℕ) → task (playedTo s part n) t .depth ≤ mostRequests
   unfolding depth
   few-along Z n h t = sound-along (sound-of-test s Z h) n .0 .steady .locks .tasks t .opened .few
-
-  -- what the answer to one event more is made of
-  pub parts-along : Shaped s → (n : ℕ) (x : State) → x ≡ playedTo s part n → (r : Tested) → r ≡ record { passes = sound s; named = names (s .setup) }
-      → (e : Event) (k : Task) (w : List ℕ) → task x (e .task) ≡ totalsAs w k → HasParts x (s .setup) (x .clock) k (x .processors) (r .named) (r .passes) e
-  parts-along Z n x h r made e k w reads =
-      let K = kept-along Z n in
-      record {
-        given = sym (ap (λ (y : State). y .setup) h ∙ K .1);
-        timed = refl;
-        totals = w;
-        recorded = reads;
-        placed = refl;
-        naming = ap (λ (y : Tested). y .named) made;
-        tested = ap (λ (y : Tested). y .passes) made ∙ sym (ap sound h ∙ K .0);
-      }
 
   -- one event more
   pub played-turn : (n : ℕ) (x : State) → x ≡ replyTo s part n .state → x ≡ playedTo s part (n + 1)

@@ -27,7 +27,7 @@ use Rattle.views.specs.Bounds.{isBounded, rankBy, modeIn, rankWith}
 use Rattle.views.proofs.Telling.{ranks-ruled, modes-ruled}
 use Rattle.locking.specs.Edits.{put}
 use Rattle.locking.specs.Totals.{allTotals, rowOf, totalsAs, counted, totalsIn, chargedTo}
-use Rattle.locking.specs.Keeping.{byTask, Keeps}
+use Rattle.locking.specs.Keeping.{keptIn, Keeps}
 use Rattle.locking.proofs.Totals.{counted-start, counted-at, counted-set, counted-charged, charged-length}
 
 totals-length : (ts : List Task) → length (totalsIn ts) ≡ allTotals
@@ -56,16 +56,16 @@ charged-by f keeps n s t l = ap f (table-at _ mostTasks t noTask l) ∙ go (stan
     go true = keeps _ _ _
     go false = refl
 
+-- a number of each task's record
+abbrev byTask : (ℕ → Task → ℕ) → State → List ℕ
+byTask f s = table (λ t. f t (task s t)) mostTasks
+
 by-task-charged : (f : ℕ → Task → ℕ) → ((t i n : ℕ) (x : Task) → f t (counting i n x) ≡ f t x) → (n : ℕ) (s : State) → byTask f s ≡ byTask f (charged n s)
 by-task-charged f keeps n s = table-same _ _ mostTasks (λ t l. sym (charged-by (f t) (keeps t) n s t l))
 
-charged-setup : (n : ℕ) (s : State) → charged n s .setup ≡ s .setup
-unfolding charged
-charged-setup n s = refl
-
 -- ---- the state that is kept
-pub keeps-start : (s : State) → Shaped s → Keeps s (s .clock) (s .tasks) (s .groups) (s .processors) (totalsIn (s .tasks))
-    (byTask (λ t x. rankBy (x .deadline) t) s) (byTask (λ t x. modeIn (s .setup .kinds) x) s) (byTask (λ t x. standingNo (x .standing)) s)
+pub keeps-start : (s : State) → Shaped s
+    → let k = keptIn (s .setup .kinds) (s .tasks) in Keeps s (s .clock) (s .tasks) (s .groups) (s .processors) (totalsIn (s .tasks)) (k .own) (k .modes) (k .stands)
 keeps-start s Z = record {
   timed = refl;
   recorded = sym (counted-start (s .tasks) (Z .sized .tasks) (Z .sized .totals));

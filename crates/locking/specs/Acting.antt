@@ -2,9 +2,8 @@
 use Prim.Native.Nat.{ℕ, _<_, _≤_}
 use mathlib.Core.Path.{_≡_}
 use mathlib.Core.Bool.{true}
-use mathlib.Core.List.{List}
 use Rattle.input.specs.Limits.{mostTasks, mostResources}
-use Rattle.setups.specs.Naming.{names, groupOf}
+use Rattle.setups.specs.Naming.{groupOf}
 use Rattle.input.specs.Kinds.{request, completion}
 use Rattle.input.specs.declared.Event.{Event}
 use Rattle.protocol.specs.Words.{mostRequests, depth, len}
@@ -31,9 +30,9 @@ pub record CanComplete (s : State) (t g : ℕ) : Type 0 where
   pub few : depth s t ≤ mostRequests
   pub next : 0 < len s g → CanPass s g
 
-pub record CanAct (s : State) (named : List ℕ) (e : Event) : Type 0 where
+-- the task of e is one, the ranks fit their type, and a request or a completion can be done
+pub record CanAct (s : State) (e : Event) : Type 0 where
   pub bounded : isBounded s ≡ true
-  pub naming : named ≡ names (s .setup)
   pub inside : e .task < mostTasks
   pub asks : e .kind ≡ request → CanRequest s (e .task) (groupOf (s .setup) (e .resource))
   pub completes : e .kind ≡ completion → CanComplete s (e .task) (groupOf (s .setup) (e .resource))

@@ -7,7 +7,7 @@ use lib.ListN.{length, getD, set}
 use Rattle.search.specs.Table.{table}
 use Rattle.processors.specs.declared.Processors.{Processors}
 use Rattle.input.specs.Limits.{mostTasks}
-use Rattle.protocol.specs.Words.{noTask, standingNo, task}
+use Rattle.protocol.specs.Words.{noTask, standingNo}
 use Rattle.protocol.specs.declared.Task.{Task}
 use Rattle.protocol.specs.declared.Group.{Group}
 use Rattle.protocol.specs.declared.State.{State}
@@ -30,18 +30,16 @@ keptWith kinds t x k = record {
   stands = set (k .stands) t (standingNo (x .standing));
 }
 
--- a number of each task's record
-abbrev pub byTask : (ℕ → Task → ℕ) → State → List ℕ
-byTask f s = table (λ t. f t (task s t)) mostTasks
-
-pub record Keeps (s : State) (clock : ℕ) (ts : List Task) (gs : List Group) (p : Processors) (totals own modes stands : List ℕ) : Type 0 where
+-- the clock, the records, the processors and the tables are those of s; the totals in the records are old
+pub record Keeps
+    (s : State) (clock : ℕ) (ts : List Task) (gs : List Group) (p : Processors) (totals own modes stands : List ℕ)
+    : Type 0 where
   pub timed : clock ≡ s .clock
   pub recorded : s .tasks ≡ counted ts totals
   pub grouped : gs ≡ s .groups
   pub placed : p ≡ s .processors
-  -- own ranks, modes and standings, as numbers
-  pub ranked : own ≡ byTask (λ t x. rankBy (x .deadline) t) s
-  pub ready : modes ≡ byTask (λ t x. modeIn (s .setup .kinds) x) s
-  pub stood : stands ≡ byTask (λ t x. standingNo (x .standing)) s
+  pub ranked : own ≡ keptIn (s .setup .kinds) (s .tasks) .own
+  pub ready : modes ≡ keptIn (s .setup .kinds) (s .tasks) .modes
+  pub stood : stands ≡ keptIn (s .setup .kinds) (s .tasks) .stands
   pub few : length ts ≡ mostTasks
   pub all : length totals ≡ allTotals

@@ -8,7 +8,6 @@ pub use numbers::kind_at;
 pub use numbers::number_at;
 pub use numbers::period_at;
 pub use numbers::request_at;
-pub use records::group_at;
 pub use records::no_group;
 pub use records::no_task;
 pub use records::task_at;

@@ -61,14 +61,3 @@ pub fn with_standing(task: Task, standing: Standing) -> Task
         totals,
     }
 }
-
-// The record of group `g`, or that of no group.
-pub fn group_at(groups: [Group; SetUp::RESOURCES], g: usize) -> Group
-    ensures { λ r. ⌜ r ≡ getD groups g noGroup ⌝ }
-{
-    if g < SetUp::RESOURCES {
-        groups[g]
-    } else {
-        no_group()
-    }
-}
