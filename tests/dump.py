@@ -1,11 +1,20 @@
+#!/usr/bin/env python3
 """An annotated hex dump of a block file, for people: bin/text --bytes.
 
+    python3 tests/dump.py [FILE]
+
 Per field its place in the file, its bytes and what they mean, with the reader's
-verdict on each block; refused blocks are shown as well. Runs of filler are one line.
+verdict on each block; refused blocks are shown as well, with the reason in words.
+Runs of filler are one line.
 """
 
-from model import (BLOCK, CHECK_AT, HEAD, KINDS_AT, MOST_PAIRS, MOST_RECORDS, MOST_RESOURCES,
-                   MOST_TASKS, PAIRS_AT, PERIODS_AT, RECORD, check_of, number_at, verdict)
+import sys
+
+sys.dont_write_bytecode = True
+
+import scenario
+from model import (BLOCK, CHECK_AT, HEAD, KINDS_AT, LAST_BLOCK, MOST_PAIRS, MOST_RECORDS, MOST_RESOURCES,
+                   MOST_TASKS, PAIRS_AT, PERIODS_AT, RECORD, check_of, number_at, setup_in, verdict)
 
 EVENTS = {1: 'arrives', 2: 'finishes', 3: 'requests', 4: 'completes', 5: 'time passes'}
 KINDS = {0: 'short', 1: 'long'}
@@ -70,12 +79,46 @@ def shown(data):
     return f'{len(data)} bytes' + (f', {others} not 0' if others else ' of 00')
 
 
+def detail_of(refused, block, index):
+    """What a refused block has, or should have, where a few words can say it."""
+    if refused == 30:
+        return f'; it has {len(block)}'
+    if refused == 31:
+        return f'; it should be {check_of(block).hex(" ")}'
+    if refused == 32 and index <= LAST_BLOCK:
+        return f'; it should be {index % 65_536}'
+    if refused == 33:
+        return f'; it should be {1 if index == 0 else 2}'
+    if refused == 34:
+        return f'; it should be {"1" if index == 0 else f"1 to {MOST_RECORDS}"}'
+    return ''
+
+
+def told_of(block, index):
+    """The reader's verdict on a block, and on the set-up in it."""
+    refused = verdict(block, index)
+    if refused:
+        return scenario.refused_text(refused) + detail_of(refused, block, index)
+    refused = setup_in(block).refusal() if index == 0 else 0
+    return 'accepted' + (f'; set-up {scenario.refused_text(refused)}' if refused else '')
+
+
 def dump_of(data):
     """The lines of the dump."""
     for at in range(0, max(len(data), 1), BLOCK):
         block, index = data[at:at + BLOCK], at // BLOCK
-        refused = verdict(block, index)
-        yield f'block {index}: ' + (f'refused {refused}' if refused else 'accepted')
+        yield f'block {index}: {told_of(block, index)}'
         fields = fields_of(block, index) if len(block) == BLOCK else [(0, len(block), 'too short')]
         for place, size, meaning in fields:
             yield f'  {at + place:06x}  {shown(block[place:place + size]):26}  {meaning}'
+
+
+# ---- as a command ----
+
+def bytes_of(data):
+    """The dump as it is printed."""
+    return ''.join(f'{line}\n' for line in dump_of(data)).encode()
+
+
+if __name__ == '__main__':
+    sys.exit(scenario.call('dump', __doc__, {None: bytes_of}, sys.argv[1:]))

@@ -5,7 +5,8 @@
 
 does what bin/make does: it writes the block file of a scenario, or of standard
 input, to standard output. A bad text has no file: its first fault is told on
-standard error, and the exit status is 1.
+standard error, and the exit status is 1; it is 2 where the call is wrong, or the
+scenario cannot be read or the file written.
 
 A text has an item a line:
 
@@ -22,6 +23,7 @@ Texts are bytes here where they are read, since a line may hold any bytes.
 """
 
 import os
+import signal
 import sys
 
 sys.dont_write_bytecode = True
@@ -73,9 +75,14 @@ class Bad(Exception):
         self.message = message
 
 
+def refused_text(number):
+    """A refusal with its reason, by a number of the list."""
+    return f'refused {number}: {WORDS[number]}'
+
+
 def refusal(what, number):
     """Bad, by a number of the list."""
-    return Bad(f'{what} refused {number}: {WORDS[number]}'.encode())
+    return Bad(f'{what} {refused_text(number)}'.encode())
 
 
 # ---- an item: its word and its arguments ----
@@ -272,30 +279,56 @@ def text_of(data):
 
 # ---- as commands ----
 
+def tell(program, message):
+    """A message on standard error, in bytes, since a name may hold any."""
+    sys.stderr.buffer.write(program.encode() + b': ' + message + b'\n')
+
+
+def write(program, output):
+    """Writes the output; the exit status. A reader that stops early ends the program, without a message."""
+    signal.signal(signal.SIGPIPE, signal.SIG_DFL)
+    try:
+        with open(1, 'wb', closefd=False) as file:
+            file.write(output)
+    except OSError as error:
+        tell(program, f'the output could not be written: {error.strerror}'.encode())
+        return 2
+    return 0
+
+
 def run(program, output_of, names):
     """Writes the output for the file named, or for standard input; the exit status."""
-    def tell(message):
-        sys.stderr.buffer.write(program.encode() + b': ' + message + b'\n')
     name = os.fsencode(names[0]) if names else b'standard input'
     try:
         with open(names[0] if names else 0, 'rb') as file:
             output = output_of(file.read())
     except OSError as error:
-        tell(b'cannot read ' + name + f': {error.strerror}'.encode())
+        tell(program, b'cannot read ' + name + f': {error.strerror}'.encode())
         return 2
     except Bad as bad:
-        tell(name + b': ' + bad.message)
+        tell(program, name + b': ' + bad.message)
         return 1
-    sys.stdout.buffer.write(output)
-    return 0
+    return write(program, output)
 
 
-def main(names):
+def call(program, help_text, outputs, words):
+    """Runs by the words of a call: an option of `outputs`, None if there is none, and a name; the exit status."""
+    output_of, names = outputs[None], list(words)
+    while names and names[0].startswith('-') and names[0] != '-':
+        word = names.pop(0)
+        if word == '--':
+            break
+        if word in ('-h', '--help'):
+            return write(program, help_text.encode())
+        if word not in outputs:
+            tell(program, b'unknown option ' + os.fsencode(word) + b'; see --help')
+            return 2
+        output_of = outputs[word]
     if len(names) > 1:
-        print('usage: tests/scenario.py [SCENARIO]', file=sys.stderr)
+        tell(program, b'one file at most; see --help')
         return 2
-    return run('make', file_of, names)
+    return run(program, output_of, names)
 
 
 if __name__ == '__main__':
-    sys.exit(main(sys.argv[1:]))
+    sys.exit(call('make', __doc__, {None: file_of}, sys.argv[1:]))

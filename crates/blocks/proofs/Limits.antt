@@ -6,10 +6,10 @@ use mathlib.Core.Logic.{_≢_}
 use native.Mathlib.Omega.{arith}
 use lib.ListN.{length}
 use borrow.Author.Tests.{ne-eqb}
-use Rattle.search.specs.Rows.{firstOf}
-use Rattle.search.specs.Numbered.{NoneApplies}
+use Rattle.numbers.specs.Rows.{firstOf}
+use Rattle.numbers.specs.Numbered.{NoneApplies}
 use Rattle.search.proofs.Tests.{tests}
-use Rattle.search.proofs.Refusals.{none-iff}
+use Rattle.numbers.proofs.Refusals.{none-iff}
 use Rattle.input.specs.Layout.{eventSize, eventCount}
 use Rattle.blocks.specs.Sizes.{lastIndex, mostEvents}
 use Rattle.blocks.specs.Verdicts.{count, mostFor, usedSize, isFirst, blockRows, verdict, usedPart, numberOf, lengthOf}

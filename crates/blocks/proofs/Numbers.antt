@@ -9,10 +9,10 @@ use native.Mathlib.Decide.{ℕ-discrete}
 use lib.ListN.{length, drop, length-drop}
 use lib.Seq.{length-take-le}
 use borrow.Author.Tests.{ne-eqb}
-use Rattle.search.specs.Rows.{firstOf}
-use Rattle.search.specs.Numbered.{standsAt, FirstAt, NoneApplies}
+use Rattle.numbers.specs.Rows.{firstOf}
+use Rattle.numbers.specs.Numbered.{standsAt, FirstAt, NoneApplies}
 use Rattle.search.proofs.Tests.{tests}
-use Rattle.search.proofs.Refusals.{Given, given-iff, none-iff, number-iff}
+use Rattle.numbers.proofs.Refusals.{Given, given-iff, none-iff, number-iff}
 use Rattle.blocks.specs.Sizes.{payloadAt, payloadSize}
 use Rattle.blocks.specs.Numbers.{BlockNumbers}
 use Rattle.blocks.specs.Verdicts.{mostFor, count, usedSize, isFirst, blockRows, verdict, usedPart, numberOf, lengthOf}

@@ -4,8 +4,8 @@ use mathlib.Core.List.{List, [], _∷_, _++_}
 use lib.ListN.{length, getD, take, drop}
 use Rattle.search.specs.Words.{if_then_else_, _is_}
 use Rattle.search.specs.Table.{table}
-use Rattle.input.specs.Layout.{setUpIn, eventsIn}
-use Rattle.input.specs.declared.SetUp.{SetUp}
+use Rattle.input.specs.Layout.{setupIn, eventsIn}
+use Rattle.input.specs.declared.Setup.{Setup}
 use Rattle.input.specs.declared.Event.{Event}
 use Rattle.blocks.specs.Sizes.{blockSize}
 use Rattle.blocks.specs.Verdicts.{verdict, usedPart, numberOf}
@@ -34,8 +34,8 @@ module _ (blocks : List (List ℕ)) where
   abbrev pub laterBlocks : List (List ℕ)
   laterBlocks = drop 1 blocks
 
-  abbrev pub setUpOf : SetUp
-  setUpOf = setUpIn (partOf firstBlock 0)
+  abbrev pub setupOf : Setup
+  setupOf = setupIn (partOf firstBlock 0)
 
   abbrev pub eventsOf : List Event
   eventsOf = eventsFrom 1 laterBlocks

@@ -5,6 +5,7 @@ use mathlib.Core.Bool.{true}
 use mathlib.Core.List.{List}
 use mathlib.Core.Logic.{_≢_}
 use lib.ListN.{length, set}
+use Rattle.numbers.specs.Refusals.{checkWrong}
 use Rattle.input.specs.Layout.{byte}
 use Rattle.blocks.specs.Sizes.{checkAt, blockSize}
 use Rattle.blocks.specs.Check.{isChecked}
@@ -31,4 +32,4 @@ OneByteIsCaught = (a b : List ℕ) → AreBytes a → AreBytes b → OneChanged 
 abbrev pub OneByteIsRefused : Type 0
 OneByteIsRefused = (block : List ℕ) (place value index : ℕ) → AreBytes block → length block ≡ blockSize
     → isChecked block ≡ true → place < checkAt → value < 256 → value ≢ byte block place
-    → numberOf (verdict (set block place value) index) ≡ 31
+    → numberOf (verdict (set block place value) index) ≡ checkWrong

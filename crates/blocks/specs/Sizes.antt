@@ -28,8 +28,8 @@ abbrev pub numbers : ℕ
 numbers = 65536
 
 -- the kinds of block, and the most events in one
-abbrev pub setUpBlock : ℕ
-setUpBlock = 1
+abbrev pub setupBlock : ℕ
+setupBlock = 1
 
 abbrev pub eventBlock : ℕ
 eventBlock = 2

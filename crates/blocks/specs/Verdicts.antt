@@ -6,17 +6,18 @@ use lib.Dec.{ltb}
 use lib.ListN.{length, take, drop}
 use Rattle.search.specs.Words.{if_then_else_, _is_, _isn't_}
 use Rattle.search.specs.Below.{allBelow}
-use Rattle.search.specs.Rows.{Row, _when_, _otherwise_, firstOf}
-use Rattle.input.specs.Layout.{byte, word, periodsAt, kindsAt, pairsAt, setUpSize, eventSize}
+use Rattle.numbers.specs.Refusals.{sizeWrong, checkWrong, numberWrong, blockKindWrong, recordCountWrong, fillerWrong}
+use Rattle.numbers.specs.Rows.{Row, _when_, _otherwise_, firstOf}
+use Rattle.input.specs.Layout.{byte, word, periodsAt, kindsAt, pairsAt, setupSize, eventSize}
 use Rattle.input.specs.Words.{within}
-use Rattle.blocks.specs.Sizes.{kindAt, countAt, payloadAt, payloadSize, blockSize, lastIndex, numbers, setUpBlock, eventBlock, mostEvents}
+use Rattle.blocks.specs.Sizes.{kindAt, countAt, payloadAt, payloadSize, blockSize, lastIndex, numbers, setupBlock, eventBlock, mostEvents}
 use Rattle.blocks.specs.Check.{isChecked}
 use Rattle.blocks.specs.declared.Verdict.{Verdict}
 use Rattle.blocks.specs.declared.Verdict.the-variants.{Used, Refused}
 
 -- the first block is the set-up, all others are events: the kind that it must have, and the most that it may count
 abbrev pub kindFor : Bool → ℕ
-kindFor isFirst = if isFirst then setUpBlock else eventBlock
+kindFor isFirst = if isFirst then setupBlock else eventBlock
 
 abbrev pub mostFor : Bool → ℕ
 mostFor isFirst = if isFirst then 1 else mostEvents
@@ -30,12 +31,12 @@ module _ (block : List ℕ) where
   isBlank from to = allBelow (to - from) (λ i. payload (from + i) is 0)
 
   -- in a set-up block, table places past a count are filler, and all behind the tables
-  unfoldable pub isSetUpFilled : Bool
-  isSetUpFilled =
+  unfoldable pub isSetupFilled : Bool
+  isSetupFilled =
       isBlank (periodsAt + 2 * payload 1) kindsAt
       && isBlank (kindsAt + payload 2) pairsAt
-      && isBlank (pairsAt + 2 * payload 3) setUpSize
-      && isBlank setUpSize payloadSize
+      && isBlank (pairsAt + 2 * payload 3) setupSize
+      && isBlank setupSize payloadSize
 
   abbrev pub count : ℕ
   count = byte block countAt
@@ -45,10 +46,10 @@ module _ (block : List ℕ) where
   isEventFilled = allBelow count (λ i. payload (eventSize * i + 3) is 0) && isBlank (eventSize * count) payloadSize
 
   abbrev pub isFilled : Bool → Bool
-  isFilled isFirst = if isFirst then isSetUpFilled else isEventFilled
+  isFilled isFirst = if isFirst then isSetupFilled else isEventFilled
 
   abbrev pub usedSize : Bool → ℕ
-  usedSize isFirst = if isFirst then setUpSize else eventSize * count
+  usedSize isFirst = if isFirst then setupSize else eventSize * count
 
   module _ (index : ℕ) where
     abbrev pub isFirst : Bool
@@ -56,12 +57,12 @@ module _ (block : List ℕ) where
 
     unfoldable pub blockRows : List Row
     blockRows =
-        30 when length block isn't blockSize otherwise
-        31 when not (isChecked block) otherwise
-        32 when (word block 0 isn't index % numbers || ltb lastIndex index) otherwise
-        33 when byte block kindAt isn't kindFor isFirst otherwise
-        34 when not (within 1 count (mostFor isFirst)) otherwise
-        35 when not (isFilled isFirst) otherwise
+        sizeWrong when length block isn't blockSize otherwise
+        checkWrong when not (isChecked block) otherwise
+        numberWrong when (word block 0 isn't index % numbers || ltb lastIndex index) otherwise
+        blockKindWrong when byte block kindAt isn't kindFor isFirst otherwise
+        recordCountWrong when not (within 1 count (mostFor isFirst)) otherwise
+        fillerWrong when not (isFilled isFirst) otherwise
         []
 
     -- accepted, with the length of the used part, or refused, with its number

@@ -4,12 +4,13 @@ use crate::Verdict;
 use crate::checking::is_checked;
 use crate::checking::word_at;
 use input::Event;
-use input::SetUp;
+use input::Setup;
+use numbers::Refusal;
 ghost use mathlib.Core.Path.{_≡_};
 ghost use Prim.Native.Nat.{_≤_};
-ghost use Rattle.search.specs.Rows.{firstOf};
+ghost use Rattle.numbers.specs.Rows.{firstOf};
 ghost use Rattle.blocks.specs.Sizes.{payloadSize};
-ghost use Rattle.blocks.specs.Verdicts.{kindFor, mostFor, isBlank, isSetUpFilled, isEventFilled, isFilled, usedSize, blockRows, verdict, usedPart, numberOf};
+ghost use Rattle.blocks.specs.Verdicts.{kindFor, mostFor, isBlank, isSetupFilled, isEventFilled, isFilled, usedSize, blockRows, verdict, usedPart, numberOf};
 
 // The payload's bytes from `from` to before `to` are 0.
 fn is_blank(block: &[u8], from: usize, to: usize) -> bool
@@ -23,16 +24,16 @@ fn is_blank(block: &[u8], from: usize, to: usize) -> bool
     ok
 }
 
-fn is_set_up_filled(block: &[u8]) -> bool
-    ensures { λ r. ⌜ r ≡ isSetUpFilled (now (block .entry)) ⌝ }
+fn is_setup_filled(block: &[u8]) -> bool
+    ensures { λ r. ⌜ r ≡ isSetupFilled (now (block .entry)) ⌝ }
 {
     let tasks = input::byte_at(block, Block::PAYLOAD_AT + 1) as usize;
     let resources = input::byte_at(block, Block::PAYLOAD_AT + 2) as usize;
     let pairs = input::byte_at(block, Block::PAYLOAD_AT + 3) as usize;
-    is_blank(block, SetUp::PERIODS_AT + 2 * tasks, SetUp::KINDS_AT)
-        & is_blank(block, SetUp::KINDS_AT + resources, SetUp::PAIRS_AT)
-        & is_blank(block, SetUp::PAIRS_AT + 2 * pairs, SetUp::SIZE)
-        & is_blank(block, SetUp::SIZE, Block::CHECK_AT - Block::PAYLOAD_AT)
+    is_blank(block, Setup::PERIODS_AT + 2 * tasks, Setup::KINDS_AT)
+        & is_blank(block, Setup::KINDS_AT + resources, Setup::PAIRS_AT)
+        & is_blank(block, Setup::PAIRS_AT + 2 * pairs, Setup::SIZE)
+        & is_blank(block, Setup::SIZE, Block::CHECK_AT - Block::PAYLOAD_AT)
 }
 
 fn is_event_filled(block: &[u8]) -> bool
@@ -55,7 +56,7 @@ fn is_event_filled(block: &[u8]) -> bool
 fn kind_for(first: bool) -> u8
     ensures { λ r. ⌜ r ≡ kindFor first ⌝ }
 {
-    if first { Block::SET_UP } else { Block::EVENTS }
+    if first { Block::SETUP } else { Block::EVENTS }
 }
 
 fn most_for(first: bool) -> u8
@@ -68,7 +69,7 @@ fn is_filled(block: &[u8], first: bool) -> bool
     ensures { λ r. ⌜ r ≡ isFilled (now (block .entry)) first ⌝ }
 {
     if first {
-        is_set_up_filled(block)
+        is_setup_filled(block)
     } else {
         is_event_filled(block)
     }
@@ -78,13 +79,13 @@ fn used_size(block: &[u8], first: bool) -> usize
     ensures { λ r. ⌜ r ≡ usedSize (now (block .entry)) first ⌝ }
 {
     if first {
-        SetUp::SIZE
+        Setup::SIZE
     } else {
         Event::SIZE * (input::byte_at(block, Block::COUNT_AT) as usize)
     }
 }
 
-// The first of 30 to 35 that applies, or 0.
+// The first refusal that applies, or 0; the rows come from the last to the first.
 fn refusal_of(block: &[u8], index: u64) -> u8
     ensures { λ r. ⌜ r ≡ firstOf (blockRows (now (block .entry)) index) ⌝ }
 {
@@ -92,16 +93,16 @@ fn refusal_of(block: &[u8], index: u64) -> u8
     let kind = input::byte_at(block, Block::KIND_AT);
     let count = input::byte_at(block, Block::COUNT_AT);
     let misnumbered = word_at(block, 0) as u64 != index % Block::NUMBERS;
-    let r35 = search::row(35, !is_filled(block, is_first), 0);
-    let r34 = search::row(34, !((1 <= count) & (count <= most_for(is_first))), r35);
-    let r33 = search::row(33, kind != kind_for(is_first), r34);
-    let r32 = search::row(32, misnumbered | (Block::LAST_INDEX < index), r33);
-    let r31 = search::row(31, !is_checked(block), r32);
-    search::row(30, block.len() != Block::SIZE, r31)
+    let r35 = numbers::row(Refusal::FILLER_WRONG, !is_filled(block, is_first), 0);
+    let r34 = numbers::row(Refusal::RECORD_COUNT_WRONG, !((1 <= count) & (count <= most_for(is_first))), r35);
+    let r33 = numbers::row(Refusal::BLOCK_KIND_WRONG, kind != kind_for(is_first), r34);
+    let r32 = numbers::row(Refusal::NUMBER_WRONG, misnumbered | (Block::LAST_INDEX < index), r33);
+    let r31 = numbers::row(Refusal::CHECK_WRONG, !is_checked(block), r32);
+    numbers::row(Refusal::SIZE_WRONG, block.len() != Block::SIZE, r31)
 }
 
 // The verdict on a block at an index.
-pub fn judge(block: &[u8], index: u64) -> Verdict
+pub fn judge_block(block: &[u8], index: u64) -> Verdict
     ensures { λ r. ⌜ r ≡ verdict (now (block .entry)) index ⌝ }
 {
     let refusal = refusal_of(block, index);

@@ -3,7 +3,7 @@ mod checking;
 mod judging;
 
 pub use checking::check_of;
-pub use judging::judge;
+pub use judging::judge_block;
 pub use judging::number_of;
 pub use judging::used_part;
 
@@ -26,7 +26,7 @@ impl Block {
 
     pub const NUMBERS: u64 = 65536;
     // The kinds of block, and the most events in one.
-    pub const SET_UP: u8 = 1;
+    pub const SETUP: u8 = 1;
 
     pub const EVENTS: u8 = 2;
 

@@ -2,23 +2,23 @@
 use crate::comparing::is_same;
 use crate::hostile;
 use crate::hostile::hostile;
-use crate::pages::event_block;
-use crate::pages::print_page;
+use crate::page_calls::event_block;
+use crate::page_calls::print_page;
 use crate::printed;
-use crate::telling::LENT;
-use crate::telling::end_row;
-use crate::telling::print_answer;
-use crate::telling::print_flag;
-use crate::telling::print_line;
-use crate::telling::print_number;
+use crate::reporting::LENT;
+use crate::reporting::end_row;
+use crate::reporting::print_answer;
+use crate::reporting::print_flag;
+use crate::reporting::print_line;
+use crate::reporting::print_number;
 use input::Event;
 use libc::STDOUT_FILENO;
 use lines::Line;
 use processors::Jobs;
 use protocol::Reply;
 use protocol::State;
-use stepping::Page;
-use stepping::Session;
+use pages::Page;
+use pages::Session;
 
 // Time passes to tick 9, and an event of which each number is the largest.
 const TWO_EVENTS: [u8; 12] = [5, 0, 0, 0, 9, 0, 255, 255, 255, 255, 255, 255];
@@ -40,16 +40,16 @@ fn tell_events(which: u64, state: State, busy: State) {
     };
     begin_row(which, b" events");
     print_flag(is_same(state, busy));
-    print_answer(locking::judge(state, e));
+    print_answer(locking::judge_event(state, e));
     let reply = locking::step(state, e);
     let after = reply.state;
     print_answer(reply.answer);
     print_flag(is_same(state, after));
-    let mut written = [LENT; 2 * Reply::LINE];
+    let mut written = [LENT; 2 * Reply::SNAPSHOT];
     let played = locking::play(state, &TWO_EVENTS, &mut written);
     let after = played.state;
     print_answer(written[0]);
-    print_answer(written[Reply::LINE]);
+    print_answer(written[Reply::SNAPSHOT]);
     print_number(played.count as u64);
     print_flag(is_same(state, after));
     end_row();
@@ -61,7 +61,7 @@ fn told_jobs(state: State) -> u64 {
     let kinds = setup.kinds;
     let tasks = state.tasks;
     let groups = state.groups;
-    let jobs = views::jobs_of(kinds, setup.resources, tasks, groups);
+    let jobs = priorities::jobs_of(kinds, setup.resources, tasks, groups);
     let modes = jobs.modes;
     let mut count = 0;
     for t in 0..Jobs::END {

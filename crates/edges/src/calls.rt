@@ -1,11 +1,11 @@
 // Edges that no file can show: blocks at far indices, lines that are refused, and events on a state that is not sound.
-use crate::pages::event_block;
+use crate::page_calls::event_block;
 use crate::printed;
-use crate::telling::LENT;
-use crate::telling::end_row;
-use crate::telling::print_answer;
-use crate::telling::print_line;
-use crate::telling::print_number;
+use crate::reporting::LENT;
+use crate::reporting::end_row;
+use crate::reporting::print_answer;
+use crate::reporting::print_line;
+use crate::reporting::print_number;
 use blocks::Block;
 use input::Event;
 use libc::STDOUT_FILENO;
@@ -13,7 +13,7 @@ use lines::Line;
 use protocol::State;
 use protocol::Task;
 ghost use Prim.Native.Nat.{_<_, _≤_};
-ghost use Rattle.texts.specs.Buffers.{lineLimit};
+ghost use Rattle.lines.specs.Buffers.{lineLimit};
 
 // A buffer that is long enough for a line, and one that is not.
 const ENOUGH: usize = Line::LIMIT;
@@ -58,7 +58,7 @@ fn plain_lines(call: u64, room: usize)
     let line = lines::block_line(Block::LAST_INDEX + 1, 32, &mut out[0..room]);
     tell_line(call, line, out);
     let mut out = [LENT; ENOUGH];
-    let line = lines::set_up_line(5, &mut out[0..room]);
+    let line = lines::setup_line(5, &mut out[0..room]);
     tell_line(call + 1, line, out);
     let mut out = [LENT; ENOUGH];
     let line = lines::places_line(12, 2, &[19, 0, 0, 2, 255], &mut out[0..room]);
@@ -71,14 +71,14 @@ fn plain_lines(call: u64, room: usize)
 // The verdict on a block of one event, of the number given, at an index.
 fn tell_verdict(call: u64, number: u16, index: u64) {
     let block = event_block(number);
-    tell(call, blocks::number_of(blocks::judge(&block, index)));
+    tell(call, blocks::number_of(blocks::judge_block(&block, index)));
 }
 
 // An event of a kind that there is not, on a state that is sound, or is not.
 fn tell_answers(call: u64, state: State)
     requires { ⌜ call < 1000 ⌝ }
 {
-    tell(call, locking::judge(state, Event::NONE));
+    tell(call, locking::judge_event(state, Event::NONE));
     let reply = locking::step(state, Event::NONE);
     tell(call + 1, reply.answer);
     let mut written = [0u8; 34];

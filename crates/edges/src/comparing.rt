@@ -1,5 +1,5 @@
 // Whether two states have the same numbers, all of them, and two lists the same bytes: there is no `==` of either.
-use input::SetUp;
+use input::Setup;
 use processors::Processors;
 use protocol::Group;
 use protocol::State;
@@ -13,9 +13,9 @@ pub fn same_bytes(a: &[u8], b: &[u8]) -> bool {
     same
 }
 
-fn same_periods(a: [u16; SetUp::TASKS], b: [u16; SetUp::TASKS]) -> bool {
+fn same_periods(a: [u16; Setup::TASKS], b: [u16; Setup::TASKS]) -> bool {
     let mut same = true;
-    for t in 0..SetUp::TASKS {
+    for t in 0..Setup::TASKS {
         same = same & (a[t] == b[t]);
     }
     same
@@ -29,7 +29,7 @@ fn same_totals(a: [u32; Task::TOTALS], b: [u32; Task::TOTALS]) -> bool {
     same
 }
 
-fn same_set_up(a: SetUp, b: SetUp) -> bool {
+fn same_setup(a: Setup, b: Setup) -> bool {
     let periods = a.periods;
     let others = b.periods;
     (a.processors == b.processors)
@@ -70,7 +70,7 @@ fn same_processors(a: Processors, b: Processors) -> bool {
 
 fn same_tasks(a: State, b: State) -> bool {
     let mut same = true;
-    for t in 0..SetUp::TASKS {
+    for t in 0..Setup::TASKS {
         let task = a.tasks[t];
         let other = b.tasks[t];
         same = same & same_task(task, other);
@@ -80,7 +80,7 @@ fn same_tasks(a: State, b: State) -> bool {
 
 fn same_groups(a: State, b: State) -> bool {
     let mut same = true;
-    for g in 0..SetUp::RESOURCES {
+    for g in 0..Setup::RESOURCES {
         let group = a.groups[g];
         let other = b.groups[g];
         same = same & same_group(group, other);
@@ -93,7 +93,7 @@ pub fn is_same(a: State, b: State) -> bool {
     let other_setup = b.setup;
     let p = a.processors;
     let other_p = b.processors;
-    same_set_up(setup, other_setup)
+    same_setup(setup, other_setup)
         & (a.clock == b.clock)
         & same_tasks(a, b)
         & same_groups(a, b)

@@ -1,12 +1,12 @@
 // Files of blocks: each stands in the input behind its length, four bytes, low first.
-use crate::telling::end_row;
-use crate::telling::print_number;
+use crate::reporting::end_row;
+use crate::reporting::print_number;
 use crate::writing::is_written_again;
 use blocks::Block;
 use libc::STDIN_FILENO;
 use libc::STDOUT_FILENO;
-use stepping::Page;
-use stepping::Session;
+use pages::Page;
+use pages::Session;
 
 // More than the input has.
 const MOST_FILES: u64 = 1000;
@@ -20,7 +20,7 @@ struct Walk {
 // Writes the page of a block of which `read` came, and gives the session after it.
 fn write_page(session: Session, read: &[u8]) -> Session {
     let mut out = [0u8; Page::LIMIT];
-    let page = stepping::next_page(session, read, &mut out);
+    let page = pages::next_page(session, read, &mut out);
     let len = page.len;
     io::write_all(STDOUT_FILENO, &out[0..len]);
     page.session
@@ -70,7 +70,7 @@ fn tell_again(again: u64) {
 // many of all its blocks were written again to the byte.
 fn run_file(len: usize) {
     let mut walk = Walk {
-        session: stepping::begin(),
+        session: pages::begin(),
         again: 0,
     };
     let mut left = len;

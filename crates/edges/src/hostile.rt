@@ -1,6 +1,6 @@
 // States that no session has: the busy state of the printed case with the largest number of its type in one place, or
 // in all of them at once. None is sound; tests/calls.py names the clause that each one breaks.
-use input::SetUp;
+use input::Setup;
 use processors::Processors;
 use protocol::Group;
 use protocol::Lock;
@@ -20,7 +20,7 @@ pub const STATES: u64 = ALL + 1;
 // 1 to 9: the counts, the start, the period of a pending job, whose deadline it then does not give, a kind, and the
 // sides of a pair. 10 is the clock's, and start goes with it: the clock alone at its largest leaves a state sound, but
 // so the last arrivals are before the start.
-fn in_set_up(setup: SetUp, which: u64) -> SetUp {
+fn in_setup(setup: Setup, which: u64) -> Setup {
     let mut next = setup;
     match which {
         1 => next.processors = usize::MAX,
@@ -40,7 +40,7 @@ fn in_set_up(setup: SetUp, which: u64) -> SetUp {
 
 // The task with its job waiting for a short resource.
 fn waiting_for(task: Task, resource: u8) -> Task {
-    tables::with_standing(task, Standing::Waiting(Lock::Short(resource)))
+    states::with_standing(task, Standing::Waiting(Lock::Short(resource)))
 }
 
 // 11 to 15: the times and totals of task 0, whose job waits, and the resource that it asked for.
@@ -106,14 +106,14 @@ fn in_processors(p: Processors, which: u64) -> Processors {
 fn past_counts(state: State, which: u64) -> State {
     let mut next = state;
     if which == 31 {
-        let mut group = next.groups[SetUp::RESOURCES - 1];
+        let mut group = next.groups[Setup::RESOURCES - 1];
         group.holder = FAR;
-        next.groups[SetUp::RESOURCES - 1] = group;
+        next.groups[Setup::RESOURCES - 1] = group;
     }
     if which == 32 {
-        let mut task = next.tasks[SetUp::TASKS - 1];
+        let mut task = next.tasks[Setup::TASKS - 1];
         task.requests[Task::REQUESTS - 1] = FAR;
-        next.tasks[SetUp::TASKS - 1] = task;
+        next.tasks[Setup::TASKS - 1] = task;
     }
     next
 }
@@ -122,7 +122,7 @@ fn past_counts(state: State, which: u64) -> State {
 fn with_one(state: State, which: u64) -> State {
     let mut next = past_counts(state, which);
     let setup = next.setup;
-    next.setup = in_set_up(setup, which);
+    next.setup = in_setup(setup, which);
     if which == 10 {
         next.clock = u32::MAX;
     }

@@ -5,18 +5,18 @@ mod calls;
 mod comparing;
 mod files;
 mod hostile;
-mod pages;
+mod page_calls;
 mod parts;
 mod printed;
 mod scenarios;
-mod telling;
+mod reporting;
 mod writing;
 
 fn main() {
     files::run_all();
     calls::run_all();
     answers::run_all();
-    pages::run_all();
+    page_calls::run_all();
     parts::run_all();
     writing::run_all();
     scenarios::run_all();

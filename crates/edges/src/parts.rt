@@ -1,15 +1,15 @@
 // Parts of events that are not whole, and buffers without room for all of them.
 use crate::printed;
-use crate::telling::LENT;
-use crate::telling::changed;
-use crate::telling::end_row;
-use crate::telling::print_number;
+use crate::reporting::LENT;
+use crate::reporting::changed;
+use crate::reporting::end_row;
+use crate::reporting::print_number;
 use libc::STDOUT_FILENO;
 use protocol::Reply;
 ghost use Prim.Native.Nat.{_≤_};
 
 // Room for three events.
-const ROOM: usize = 3 * Reply::LINE;
+const ROOM: usize = 3 * Reply::SNAPSHOT;
 
 // Time passes to ticks 9 and 10; and a byte of a third event.
 const EVENTS: [u8; 13] = [5, 0, 0, 0, 9, 0, 5, 0, 0, 0, 10, 0, 5];
@@ -40,10 +40,10 @@ fn tell_part(len: usize, room: usize, from: usize)
 }
 
 pub fn run_all() {
-    tell_part(13, ROOM, 2 * Reply::LINE);
-    tell_part(12, 2 * Reply::LINE, 2 * Reply::LINE);
-    tell_part(12, 2 * Reply::LINE - 1, Reply::LINE);
-    tell_part(12, Reply::LINE - 1, 0);
+    tell_part(13, ROOM, 2 * Reply::SNAPSHOT);
+    tell_part(12, 2 * Reply::SNAPSHOT, 2 * Reply::SNAPSHOT);
+    tell_part(12, 2 * Reply::SNAPSHOT - 1, Reply::SNAPSHOT);
+    tell_part(12, Reply::SNAPSHOT - 1, 0);
     tell_part(5, ROOM, 0);
     tell_part(0, ROOM, 0);
 }

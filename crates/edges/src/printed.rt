@@ -1,29 +1,29 @@
 // The printed case of document 01: its set-up, and its state after five events.
 use input::Event;
-use input::SetUp;
+use input::Setup;
 use protocol::State;
 
 // The set-up of the printed case, on so many processors.
-fn set_up(processors: usize) -> SetUp {
-    let mut periods = [0u16; SetUp::TASKS];
+fn setup(processors: usize) -> Setup {
+    let mut periods = [0u16; Setup::TASKS];
     periods[0] = 100;
     periods[1] = 200;
     periods[2] = 50;
-    SetUp {
+    Setup {
         processors,
         tasks: 3,
         resources: 1,
         pairs: 0,
         start: 65530,
         periods,
-        kinds: [0u8; SetUp::RESOURCES],
-        outer: [0u8; SetUp::PAIRS],
-        inner: [0u8; SetUp::PAIRS],
+        kinds: [0u8; Setup::RESOURCES],
+        outer: [0u8; Setup::PAIRS],
+        inner: [0u8; Setup::PAIRS],
     }
 }
 
 pub fn state_on(processors: usize) -> State {
-    let reply = states::begin(set_up(processors));
+    let reply = states::begin(setup(processors));
     reply.state
 }
 
@@ -43,10 +43,10 @@ fn after(state: State, kind: u8, task: u8, tick: u16) -> State {
 
 // The set-up with a long resource besides, and a pair of it and the short one, which joins nothing, so that it has a
 // number of every sort.
-pub fn busy_set_up() -> SetUp {
-    let mut setup = set_up(2);
+pub fn busy_setup() -> Setup {
+    let mut setup = setup(2);
     setup.resources = 2;
-    setup.kinds[1] = SetUp::LONG;
+    setup.kinds[1] = Setup::LONG;
     setup.pairs = 1;
     setup.outer[0] = 1;
     setup.inner[0] = 0;
@@ -56,7 +56,7 @@ pub fn busy_set_up() -> SetUp {
 // The state of that set-up after five events. Task 1 holds resource 0 and runs on processor 1, to which task 2 is
 // linked; task 0 spins for it on processor 0.
 pub fn busy() -> State {
-    let begun = states::begin(busy_set_up());
+    let begun = states::begin(busy_setup());
     let first = after(begun.state, Event::ARRIVAL, 0, 65530);
     let second = after(first, Event::ARRIVAL, 1, 65532);
     let third = after(second, Event::REQUEST, 1, 65535);

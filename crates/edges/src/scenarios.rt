@@ -1,9 +1,9 @@
 // Lines of scenarios: what becomes of each, and whether a block is written.
-use crate::telling::LENT;
-use crate::telling::changed;
-use crate::telling::end_row;
-use crate::telling::print_answer;
-use crate::telling::print_flag;
+use crate::reporting::LENT;
+use crate::reporting::changed;
+use crate::reporting::end_row;
+use crate::reporting::print_answer;
+use crate::reporting::print_flag;
 use blocks::Block;
 use libc::STDOUT_FILENO;
 use scenario::Draft;
@@ -60,7 +60,7 @@ fn take_bad_words(begun: Draft) -> Draft {
 }
 
 // A set-up of two processors and a task; nothing in it stands twice, and no event stands before it.
-fn take_set_up(begun: Draft) -> Draft {
+fn take_setup(begun: Draft) -> Draft {
     let early = take(begun, b"arrive 0 @65530");
     let empty = take(early, b"block");
     let sized = take(empty, b"processors 2");
@@ -94,7 +94,7 @@ fn take_refused(begun: Draft) -> Draft {
 
 pub fn run_all() {
     let worded = take_bad_words(scenario::begin());
-    let set = take_set_up(worded);
+    let set = take_setup(worded);
     let happened = take_events(set);
     take_item(happened, Item::Block);
     let refused = take_refused(scenario::begin());

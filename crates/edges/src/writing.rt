@@ -1,15 +1,15 @@
 // Blocks that are written: those of the files again, and by call what no file holds, and what is refused.
 use crate::comparing::same_bytes;
 use crate::printed;
-use crate::telling::LENT;
-use crate::telling::changed;
-use crate::telling::end_row;
-use crate::telling::print_answer;
-use crate::telling::print_flag;
-use crate::telling::print_number;
+use crate::reporting::LENT;
+use crate::reporting::changed;
+use crate::reporting::end_row;
+use crate::reporting::print_answer;
+use crate::reporting::print_flag;
+use crate::reporting::print_number;
 use blocks::Block;
 use input::Event;
-use input::SetUp;
+use input::Setup;
 use libc::STDOUT_FILENO;
 use writer::Events;
 ghost use Prim.Native.Nat.{_≤_};
@@ -33,9 +33,9 @@ const LARGEST: Event = Event {
 };
 
 // Whether the writer accepts what was read of a block, and writes that block to the byte.
-fn is_set_up_again(setup: SetUp, block: &[u8]) -> bool {
+fn is_setup_again(setup: Setup, block: &[u8]) -> bool {
     let mut out = [LENT; Block::SIZE];
-    let answer = writer::write_set_up(setup, &mut out);
+    let answer = writer::write_setup(setup, &mut out);
     (answer == 0) & same_bytes(&out, block)
 }
 
@@ -48,9 +48,9 @@ fn are_events_again(events: Events, index: u64, block: &[u8]) -> bool {
 // Whether a block is read at its index and written again to the byte. Of one that the reader refuses nothing is read,
 // and the writer refuses that.
 pub fn is_written_again(block: &[u8], index: u64) -> bool {
-    let part = blocks::used_part(block, blocks::judge(block, index));
+    let part = blocks::used_part(block, blocks::judge_block(block, index));
     if index == 0 {
-        is_set_up_again(input::set_up_from(part), block)
+        is_setup_again(input::setup_from(part), block)
     } else {
         are_events_again(writer::events_from(part), index, block)
     }
@@ -78,11 +78,11 @@ fn print_written(answer: u8, out: [u8; ROOM], index: u64) {
     end_row();
 }
 
-fn tell_set_up(setup: SetUp, room: usize)
+fn tell_setup(setup: Setup, room: usize)
     requires { ⌜ room ≤ 513 ⌝ }
 {
     let mut out = [LENT; ROOM];
-    let answer = writer::write_set_up(setup, &mut out[0..room]);
+    let answer = writer::write_setup(setup, &mut out[0..room]);
     io::write_all(STDOUT_FILENO, b"write set-up");
     print_written(answer, out, 0);
 }
@@ -100,16 +100,16 @@ fn tell_events(e: Event, count: usize, index: u64, room: usize)
 }
 
 // The set-up with the fault that has that number; with 0, without any.
-fn faulty(number: u8) -> SetUp {
-    let mut setup = printed::busy_set_up();
+fn faulty(number: u8) -> Setup {
+    let mut setup = printed::busy_setup();
     match number {
         1 => setup.processors = usize::MAX,
         2 => setup.periods[2] = 0,
         3 => setup.kinds[1] = 2,
         4 => setup.outer[0] = 2,
         5 => {
-            setup.kinds[0] = SetUp::LONG;
-            setup.kinds[1] = SetUp::SHORT;
+            setup.kinds[0] = Setup::LONG;
+            setup.kinds[1] = Setup::SHORT;
         }
         _ => (),
     }
@@ -117,16 +117,16 @@ fn faulty(number: u8) -> SetUp {
 }
 
 // The set-up, of 3 tasks, 2 resources and a pair, with a number in the first and the last place past each count.
-fn past_counts() -> SetUp {
-    let mut setup = printed::busy_set_up();
+fn past_counts() -> Setup {
+    let mut setup = printed::busy_setup();
     setup.periods[3] = 9;
     setup.kinds[2] = 9;
     setup.outer[1] = 9;
     setup.inner[1] = 9;
-    setup.periods[SetUp::TASKS - 1] = 9;
-    setup.kinds[SetUp::RESOURCES - 1] = 9;
-    setup.outer[SetUp::PAIRS - 1] = 9;
-    setup.inner[SetUp::PAIRS - 1] = 9;
+    setup.periods[Setup::TASKS - 1] = 9;
+    setup.kinds[Setup::RESOURCES - 1] = 9;
+    setup.outer[Setup::PAIRS - 1] = 9;
+    setup.inner[Setup::PAIRS - 1] = 9;
     setup
 }
 
@@ -134,8 +134,8 @@ fn past_counts() -> SetUp {
 fn tell_past_counts() {
     let mut out = [LENT; Block::SIZE];
     io::write_all(STDOUT_FILENO, b"past counts");
-    print_answer(writer::write_set_up(past_counts(), &mut out));
-    let back = input::set_up_from(blocks::used_part(&out, blocks::judge(&out, 0)));
+    print_answer(writer::write_setup(past_counts(), &mut out));
+    let back = input::setup_from(blocks::used_part(&out, blocks::judge_block(&out, 0)));
     print_number(back.periods[3] as u64);
     print_answer(back.kinds[2]);
     print_answer(back.outer[1]);
@@ -144,34 +144,34 @@ fn tell_past_counts() {
 }
 
 // A set-up with every place in use.
-fn full() -> SetUp {
-    SetUp {
-        processors: SetUp::PROCESSORS,
-        tasks: SetUp::TASKS,
-        resources: SetUp::RESOURCES,
-        pairs: SetUp::PAIRS,
+fn full() -> Setup {
+    Setup {
+        processors: Setup::PROCESSORS,
+        tasks: Setup::TASKS,
+        resources: Setup::RESOURCES,
+        pairs: Setup::PAIRS,
         start: 16909060,
-        periods: [1286; SetUp::TASKS],
-        kinds: [SetUp::LONG; SetUp::RESOURCES],
-        outer: [8; SetUp::PAIRS],
-        inner: [9; SetUp::PAIRS],
+        periods: [1286; Setup::TASKS],
+        kinds: [Setup::LONG; Setup::RESOURCES],
+        outer: [8; Setup::PAIRS],
+        inner: [9; Setup::PAIRS],
     }
 }
 
-fn tell_set_ups() {
-    tell_set_up(faulty(0), Block::SIZE);
-    tell_set_up(past_counts(), Block::SIZE);
-    tell_set_up(full(), Block::SIZE);
-    tell_set_up(faulty(1), Block::SIZE);
-    tell_set_up(faulty(2), Block::SIZE);
-    tell_set_up(faulty(3), Block::SIZE);
-    tell_set_up(faulty(4), Block::SIZE);
-    tell_set_up(faulty(5), Block::SIZE);
-    tell_set_up(faulty(1), Block::SIZE - 1);
-    tell_set_up(faulty(1), Block::SIZE + 1);
-    tell_set_up(faulty(1), 0);
-    tell_set_up(faulty(0), Block::SIZE - 1);
-    tell_set_up(faulty(0), Block::SIZE + 1);
+fn tell_setups() {
+    tell_setup(faulty(0), Block::SIZE);
+    tell_setup(past_counts(), Block::SIZE);
+    tell_setup(full(), Block::SIZE);
+    tell_setup(faulty(1), Block::SIZE);
+    tell_setup(faulty(2), Block::SIZE);
+    tell_setup(faulty(3), Block::SIZE);
+    tell_setup(faulty(4), Block::SIZE);
+    tell_setup(faulty(5), Block::SIZE);
+    tell_setup(faulty(1), Block::SIZE - 1);
+    tell_setup(faulty(1), Block::SIZE + 1);
+    tell_setup(faulty(1), 0);
+    tell_setup(faulty(0), Block::SIZE - 1);
+    tell_setup(faulty(0), Block::SIZE + 1);
 }
 
 fn tell_event_blocks() {
@@ -198,7 +198,7 @@ fn tell_event_blocks() {
 }
 
 pub fn run_all() {
-    tell_set_ups();
+    tell_setups();
     tell_past_counts();
     tell_event_blocks();
 }

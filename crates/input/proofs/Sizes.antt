@@ -1,7 +1,7 @@
 -- How many bytes a set-up takes. Assumes nothing.
 use mathlib.Core.Path.{_≡_, refl}
-use Rattle.input.specs.Layout.{setUpSize}
+use Rattle.input.specs.Layout.{setupSize}
 
--- `SetUp::SIZE`
-pub set-up-size : setUpSize ≡ 232
-set-up-size = refl
+-- `Setup::SIZE`
+pub setup-size : setupSize ≡ 232
+setup-size = refl

@@ -1,4 +1,5 @@
--- Document 01, 'Events': the kinds, and the table that says which fields each one uses.
+-- Document 01, 'Set-up' and 'Events': the kinds of resource and of event, and the table that says which fields each kind
+-- of event uses.
 use Prim.Native.Nat.{ℕ}
 use mathlib.Core.Bool.{true, false}
 use mathlib.Core.List.{[], _∷_}
@@ -6,6 +7,14 @@ use lib.ListN.{getD}
 use Rattle.input.specs.declared.Event.{Event}
 use Rattle.input.specs.declared.Fields.{Fields}
 
+-- ---- resources
+abbrev pub short : ℕ
+short = 0
+
+abbrev pub long : ℕ
+long = 1
+
+-- ---- events
 abbrev pub arrival : ℕ
 arrival = 1
 

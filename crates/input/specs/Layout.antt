@@ -3,8 +3,8 @@ use Prim.Native.Nat.{ℕ, _+_, _*_, _/_, _%_}
 use mathlib.Core.List.{List, [], _∷_}
 use lib.ListN.{length, getD}
 use Rattle.search.specs.Table.{table}
-use Rattle.input.specs.Limits.{mostTasks, mostResources, mostPairs}
-use Rattle.input.specs.declared.SetUp.{SetUp}
+use Rattle.numbers.specs.Limits.{mostTasks, mostResources, mostPairs}
+use Rattle.input.specs.declared.Setup.{Setup}
 use Rattle.input.specs.declared.Event.{Event}
 
 -- where each part of a set-up begins: after four counts and four bytes of start, two bytes a period, one a kind, two a pair
@@ -21,8 +21,8 @@ abbrev pub pairsAt : ℕ
 pairsAt = kindsAt + mostResources
 
 -- the whole of a set-up, and of an event: kind, task, resource, reserve, tick
-abbrev pub setUpSize : ℕ
-setUpSize = pairsAt + 2 * mostPairs
+abbrev pub setupSize : ℕ
+setupSize = pairsAt + 2 * mostPairs
 
 abbrev pub eventSize : ℕ
 eventSize = 6
@@ -59,8 +59,8 @@ module _ (bytes : List ℕ) where
   unfoldable pub sideIn : ℕ → List ℕ
   sideIn side = table (λ i. byte (pairsAt + 2 * i + side)) mostPairs
 
-  unfoldable pub setUpIn : SetUp
-  setUpIn = record {
+  unfoldable pub setupIn : Setup
+  setupIn = record {
     processors = byte 0;
     tasks = byte 1;
     resources = byte 2;

@@ -1,15 +1,15 @@
 -- The parts of a set-up. A place past a table holds 0.
-use Prim.Native.Nat.{ℕ}
+use Prim.Native.Nat.{ℕ, _+_}
 use mathlib.Core.Bool.{Bool, _&&_}
 use lib.Dec.{leb, ltb}
 use lib.ListN.{getD, replicate}
 use Rattle.search.specs.Below.{anyBelow}
-use Rattle.input.specs.Limits.{mostTasks, mostResources, mostPairs}
-use Rattle.input.specs.declared.SetUp.{SetUp}
+use Rattle.numbers.specs.Limits.{mostTasks, mostResources, mostPairs}
+use Rattle.input.specs.declared.Setup.{Setup}
 
 -- every count 0, and every place
-abbrev pub noSetUp : SetUp
-noSetUp = record {
+abbrev pub noSetup : Setup
+noSetup = record {
   processors = 0;
   tasks = 0;
   resources = 0;
@@ -24,9 +24,13 @@ noSetUp = record {
 abbrev pub within : ℕ → ℕ → ℕ → Bool
 within low n high = leb low n && leb n high
 
-module _ (c : SetUp) where
+module _ (c : Setup) where
   abbrev pub period : ℕ → ℕ
   period t = getD (c .periods) t 0
+
+  -- the deadline of a job of t that arrives at `now`: arrival plus period
+  abbrev pub dueAt : ℕ → ℕ → ℕ
+  dueAt t now = now + period t
 
   abbrev pub kind : ℕ → ℕ
   kind r = getD (c .kinds) r 0

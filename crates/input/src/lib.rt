@@ -4,39 +4,40 @@ mod reading;
 mod writing;
 
 pub use events::fields_of;
+use numbers::Limit;
 pub use reading::byte_at;
 pub use reading::event_at;
 pub use reading::event_count;
-pub use reading::set_up_from;
+pub use reading::setup_from;
 pub use reading::word_of;
 pub use writing::event_bytes;
 pub use writing::high;
 pub use writing::low;
 ghost use mathlib.Core.Path.{_≡_};
-ghost use Rattle.input.specs.Words.{noSetUp};
+ghost use Rattle.input.specs.Words.{noSetup};
 
 // The counts, the starting clock, each task's period, each resource's kind, and the nesting pairs.
 // Places past a count are not read.
-pub struct SetUp {
+pub struct Setup {
     pub processors: usize,
     pub tasks: usize,
     pub resources: usize,
     pub pairs: usize,
     pub start: u32,
-    pub periods: [u16; SetUp::TASKS],
-    pub kinds: [u8; SetUp::RESOURCES],
-    pub outer: [u8; SetUp::PAIRS],
-    pub inner: [u8; SetUp::PAIRS],
+    pub periods: [u16; Setup::TASKS],
+    pub kinds: [u8; Setup::RESOURCES],
+    pub outer: [u8; Setup::PAIRS],
+    pub inner: [u8; Setup::PAIRS],
 }
 
-impl SetUp {
-    pub const PROCESSORS: usize = 8;
+impl Setup {
+    pub const PROCESSORS: usize = Limit::PROCESSORS;
 
-    pub const TASKS: usize = 32;
+    pub const TASKS: usize = Limit::TASKS;
 
-    pub const RESOURCES: usize = 32;
+    pub const RESOURCES: usize = Limit::RESOURCES;
 
-    pub const PAIRS: usize = 64;
+    pub const PAIRS: usize = Limit::PAIRS;
     // The kinds of resource.
     pub const SHORT: u8 = 0;
 
@@ -46,26 +47,26 @@ impl SetUp {
 
     pub const PERIODS_AT: usize = 8;
 
-    pub const KINDS_AT: usize = SetUp::PERIODS_AT + 2 * SetUp::TASKS;
+    pub const KINDS_AT: usize = Setup::PERIODS_AT + 2 * Setup::TASKS;
 
-    pub const PAIRS_AT: usize = SetUp::KINDS_AT + SetUp::RESOURCES;
+    pub const PAIRS_AT: usize = Setup::KINDS_AT + Setup::RESOURCES;
 
-    pub const SIZE: usize = SetUp::PAIRS_AT + 2 * SetUp::PAIRS;
+    pub const SIZE: usize = Setup::PAIRS_AT + 2 * Setup::PAIRS;
 
     // No set-up: every count is 0, and every place.
-    pub fn none() -> SetUp
-        ensures { λ r. ⌜ r ≡ noSetUp ⌝ }
+    pub fn none() -> Setup
+        ensures { λ r. ⌜ r ≡ noSetup ⌝ }
     {
-        SetUp {
+        Setup {
             processors: 0,
             tasks: 0,
             resources: 0,
             pairs: 0,
             start: 0,
-            periods: [0; SetUp::TASKS],
-            kinds: [0; SetUp::RESOURCES],
-            outer: [0; SetUp::PAIRS],
-            inner: [0; SetUp::PAIRS],
+            periods: [0; Setup::TASKS],
+            kinds: [0; Setup::RESOURCES],
+            outer: [0; Setup::PAIRS],
+            inner: [0; Setup::PAIRS],
         }
     }
 }

@@ -1,9 +1,9 @@
 // A set-up and an event from bytes. What is not there reads 0.
 use crate::Event;
-use crate::SetUp;
+use crate::Setup;
 ghost use mathlib.Core.Path.{_≡_};
 ghost use Prim.Native.Nat.{_+_, _*_, _<_};
-ghost use Rattle.input.specs.Layout.{byte, startIn, periodsIn, kindsIn, sideIn, setUpIn, eventIn, eventCount};
+ghost use Rattle.input.specs.Layout.{byte, startIn, periodsIn, kindsIn, sideIn, setupIn, eventIn, eventCount};
 
 // The byte at place `i`.
 pub fn byte_at(part: &[u8], i: usize) -> u8
@@ -23,54 +23,54 @@ fn start_in(part: &[u8]) -> u32
     ensures { λ r. ⌜ r ≡ startIn (now (part .entry)) ⌝ }
 {
     let low = word_of(
-        byte_at(part, SetUp::START_AT),
-        byte_at(part, SetUp::START_AT + 1),
+        byte_at(part, Setup::START_AT),
+        byte_at(part, Setup::START_AT + 1),
     );
     let high = word_of(
-        byte_at(part, SetUp::START_AT + 2),
-        byte_at(part, SetUp::START_AT + 3),
+        byte_at(part, Setup::START_AT + 2),
+        byte_at(part, Setup::START_AT + 3),
     );
     (low as u32) + 65536 * (high as u32)
 }
 
-fn periods_in(part: &[u8]) -> [u16; SetUp::TASKS]
+fn periods_in(part: &[u8]) -> [u16; Setup::TASKS]
     ensures { λ r. ⌜ r ≡ periodsIn (now (part .entry)) ⌝ }
 {
-    let mut periods = [0u16; SetUp::TASKS];
-    for t in 0..SetUp::TASKS {
-        let at = SetUp::PERIODS_AT + 2 * t;
+    let mut periods = [0u16; Setup::TASKS];
+    for t in 0..Setup::TASKS {
+        let at = Setup::PERIODS_AT + 2 * t;
         periods[t] = word_of(byte_at(part, at), byte_at(part, at + 1));
     }
     periods
 }
 
-fn kinds_in(part: &[u8]) -> [u8; SetUp::RESOURCES]
+fn kinds_in(part: &[u8]) -> [u8; Setup::RESOURCES]
     ensures { λ r. ⌜ r ≡ kindsIn (now (part .entry)) ⌝ }
 {
-    let mut kinds = [0u8; SetUp::RESOURCES];
-    for r in 0..SetUp::RESOURCES {
-        kinds[r] = byte_at(part, SetUp::KINDS_AT + r);
+    let mut kinds = [0u8; Setup::RESOURCES];
+    for r in 0..Setup::RESOURCES {
+        kinds[r] = byte_at(part, Setup::KINDS_AT + r);
     }
     kinds
 }
 
 // The outer resources of the pairs, or, with `side` 1, the inner ones.
-fn side_in(part: &[u8], side: usize) -> [u8; SetUp::PAIRS]
+fn side_in(part: &[u8], side: usize) -> [u8; Setup::PAIRS]
     requires { ⌜ side < 2 ⌝ }
     ensures { λ r. ⌜ r ≡ sideIn (now (part .entry)) side ⌝ }
 {
-    let mut resources = [0u8; SetUp::PAIRS];
-    for i in 0..SetUp::PAIRS {
-        resources[i] = byte_at(part, SetUp::PAIRS_AT + 2 * i + side);
+    let mut resources = [0u8; Setup::PAIRS];
+    for i in 0..Setup::PAIRS {
+        resources[i] = byte_at(part, Setup::PAIRS_AT + 2 * i + side);
     }
     resources
 }
 
 // The set-up part of a block.
-pub fn set_up_from(part: &[u8]) -> SetUp
-    ensures { λ r. ⌜ r ≡ setUpIn (now (part .entry)) ⌝ }
+pub fn setup_from(part: &[u8]) -> Setup
+    ensures { λ r. ⌜ r ≡ setupIn (now (part .entry)) ⌝ }
 {
-    SetUp {
+    Setup {
         processors: byte_at(part, 0) as usize,
         tasks: byte_at(part, 1) as usize,
         resources: byte_at(part, 2) as usize,

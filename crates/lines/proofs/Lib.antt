@@ -1,1 +1,4 @@
+pub mod Laws
+pub mod Lengths
+pub mod Values
 pub mod Numbers

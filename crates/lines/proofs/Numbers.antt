@@ -9,12 +9,12 @@ use native.Mathlib.Omega.{arith}
 use native.Mathlib.Decide.{ℕ-discrete}
 use lib.ListN.{length}
 use borrow.Author.Tests.{eq-eqb, ne-eqb, lt-ltb, ltb-true}
-use Rattle.search.specs.Rows.{Row, firstOf}
-use Rattle.search.specs.Numbered.{isNumbered, standsAt, FirstAt, NoneApplies}
-use Rattle.search.proofs.Refusals.{none-iff, number-iff}
+use Rattle.numbers.specs.Rows.{Row, firstOf}
+use Rattle.numbers.specs.Numbered.{isNumbered, standsAt, FirstAt, NoneApplies}
+use Rattle.numbers.proofs.Refusals.{none-iff, number-iff}
 use Rattle.protocol.specs.declared.State.{State}
-use Rattle.texts.specs.Buffers.{lineLimit, lineInto, narrow}
-use Rattle.lines.specs.Lines.{stateRows, taskRows}
+use Rattle.lines.specs.Buffers.{lineLimit, lineInto, narrow}
+use Rattle.lines.specs.StateLines.{stateRows, taskRows}
 use Rattle.lines.specs.Numbers.{LineNumbers}
 
 number-first : (rows : List Row) (text out : List ℕ) → lineInto rows text out .0 .number ≡ firstOf rows

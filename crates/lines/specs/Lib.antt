@@ -1,2 +1,5 @@
-pub mod Lines
+pub mod Texts
+pub mod Buffers
+pub mod Values
+pub mod StateLines
 pub mod Numbers

@@ -6,15 +6,15 @@ use native.Mathlib.Omega.{arith}
 use borrow.Author.Tests.{eq-eqb, ne-eqb}
 use native.Mathlib.Decide.{ℕ-discrete, decLt}
 use Rattle.search.proofs.Tests.{tests}
-use Rattle.search.specs.Numbered.{NoneApplies}
-use Rattle.search.proofs.Refusals.{none-iff}
-use Rattle.input.specs.Limits.{mostTasks, mostResources}
+use Rattle.numbers.specs.Numbered.{NoneApplies}
+use Rattle.numbers.proofs.Refusals.{none-iff}
+use Rattle.numbers.specs.Limits.{mostTasks, mostResources, mostRequests}
 use Rattle.setups.specs.Naming.{groupOf}
 use Rattle.input.specs.Kinds.{request as asking, completion, passing, fieldsOf}
 use Rattle.input.specs.Words.{period}
 use Rattle.input.specs.declared.Event.{Event}
 use Rattle.setups.proofs.Accepted.{and-none-iff}
-use Rattle.protocol.specs.Words.{mostRequests, lastClock, task, stand, absent, deadline, depth, len, sum}
+use Rattle.protocol.specs.Words.{lastClock, task, stand, absent, deadline, depth, len, sum}
 use Rattle.protocol.specs.Sound.{sound}
 use Rattle.protocol.specs.Refusals.{stepOf, eventRows, judge}
 use Rattle.protocol.specs.Locks.{nextAt}
@@ -24,7 +24,7 @@ use Rattle.protocol.proofs.Statements.{Sound}
 use Rattle.protocol.proofs.Reflect.{Shaped, sound-of-test}
 use Rattle.protocol.proofs.Dates.{charged-times}
 use Rattle.protocol.proofs.Step.{event-kinds, row11, row12, grouped, steady-of, asks-of, ends-of}
-use Rattle.views.specs.Bounds.{isBounded}
+use Rattle.priorities.specs.Bounds.{isBounded}
 use Rattle.locking.specs.Acting.{CanPass, CanAct}
 use Rattle.locking.proofs.Bounded.{within-bounds}
 
@@ -82,7 +82,7 @@ module _ (s : State) (e : Event) (Q : Sound s) (ok : judge s e ≡ 0) where
   charged-bounded short =
       let T = charged-times s (stepOf s e) (Q .steady .sized) (λ u. Q .steady .locks .tasks u .inside) room (Q .times) in
       within-bounds s₁ (grouped s e Q ok .few-resources) (λ t l. elim (ℕ-discrete (stand s₁ t) absent) [
-        | yes x ↦ omega (arith, T .tasks t .idle x)
+        | yes x ↦ omega (arith, T .tasks t .undated x)
         | no x ↦ let y = T .tasks t .pending x in omega (arith, y .1, T .tasks t .arrived (y .0) .1, T .clock, short t)
       ])
 

@@ -12,49 +12,50 @@ use borrow.Author.Tests.{eq-eqb, ne-eqb}
 use Rattle.search.specs.Words.{if_then_else_, _is_}
 use Rattle.search.specs.Table.{table}
 use Rattle.search.proofs.Tables.{table-length}
-use Rattle.processors.specs.Limits.{off}
-use Rattle.processors.specs.Words.{told, firstModes}
+use Rattle.processors.specs.Modes.{off}
+use Rattle.processors.specs.Words.{jobsFrom, firstModes}
 use Rattle.processors.specs.declared.Jobs.{Jobs}
 use Rattle.processors.specs.declared.Processors.{Processors}
 use Rattle.processors.proofs.Told.{first-all}
-use Rattle.input.specs.Limits.{mostTasks, mostResources, short}
-use Rattle.input.specs.Words.{period}
-use Rattle.input.specs.Kinds.{arrival, finish, request as asking, completion, passing}
-use Rattle.input.specs.declared.SetUp.{SetUp}
+use Rattle.numbers.specs.Limits.{mostTasks, mostResources, nobody, mostRequests, nothing}
+use Rattle.input.specs.Kinds.{short, arrival, finish, request as asking, completion, passing}
+use Rattle.input.specs.Words.{period, dueAt}
+use Rattle.input.specs.declared.Setup.{Setup}
 use Rattle.input.specs.declared.Event.{Event}
 use Rattle.setups.specs.Naming.{names, groupOf}
-use Rattle.protocol.specs.Words.{nobody, absent, mostRequests, lastClock, noTask, noGroup, standingNo, stand, task, group, deadline, depth}
+use Rattle.protocol.specs.Words.{absent, lastClock, standingNo, stand, task, group, deadline, depth}
+use Rattle.protocol.specs.Records.{noTask, noGroup, withStanding, withProcessors, withTotals}
 use Rattle.protocol.specs.Ranks.{modeFor, jobs}
 use Rattle.protocol.specs.declared.Lock.the-variants.{Short, Long}
 use Rattle.protocol.specs.declared.Standing.{Standing}
 use Rattle.protocol.specs.Refusals.{stepOf, judge}
 use Rattle.queue.specs.Waiting.{waiter, appended}
-use Rattle.protocol.specs.Locks.{standingAs, opening, closing, arriving, departing, lockOf}
+use Rattle.protocol.specs.Locks.{opening, closing, arriving, departing, lockOf}
 use Rattle.protocol.specs.declared.Standing.the-variants.{Absent, Active, Waiting}
-use Rattle.protocol.specs.Events.{withProcessors, charged, stepBy, step}
+use Rattle.protocol.specs.Events.{charged, stepBy, step}
 use Rattle.protocol.specs.declared.Task.{Task}
 use Rattle.protocol.specs.declared.Group.{Group}
 use Rattle.protocol.specs.declared.State.{State}
 use Rattle.protocol.proofs.Statements.{Sound}
 use Rattle.protocol.proofs.Step.{grouped, event-kinds, row11}
 use Rattle.locking.specs.Acting.{CanAct}
-use Rattle.views.specs.Bounds.{latest, isBounded, rankBy, modeIn, rankWith}
-use Rattle.views.proofs.Bounding.{deadline-bounded}
-use Rattle.locking.specs.Edits.{arrive, leave, stay, soften, giveWay, openIn, keeping, requesting, completing, editing, handing, stored, movedWith, movedBy, handed, editOf, acted}
-use Rattle.locking.specs.Totals.{CanCharge, rowOf, totalsAs, chargedTo}
+use Rattle.priorities.specs.Bounds.{latest, isBounded, rankBy, modeIn, rankWith}
+use Rattle.priorities.proofs.Bounding.{deadline-bounded}
+use Rattle.locking.specs.Edits.{arrive, leave, stay, becomePreemptable, giveWay, openIn, keeping, requesting, completing, editing, handing, stored, movedWith, movedBy, handed, editOf, acted}
+use Rattle.locking.specs.Totals.{CanCharge, rowOf, chargedTo}
 use Rattle.locking.specs.Keeping.{Keeps}
 use Rattle.locking.specs.declared.acting.Edit.{Edit}
 use Rattle.locking.proofs.Accepted.{can-act, inside, room, charges, g-in as group-in}
 use Rattle.locking.proofs.Acted.{acted-act, edit-needs, next-in, next-room, edited-deadline, handed-deadline}
 use Rattle.locking.proofs.Bounded.{put-bounded}
 use Rattle.locking.proofs.Totals.{counted-low}
-use Rattle.locking.proofs.Keeping.{charged-by, keeps-task, keeps-charge, keeps-store, keeps-move, keeps-told}
+use Rattle.locking.proofs.Keeping.{charged-by, keeps-task, keeps-charge, keeps-store, keeps-move, keeps-jobs}
 
 -- ---- an edit takes the totals of a record along
 abbrev pub asEdit : List ℕ → Edit → Edit
-asEdit w d = record { task = totalsAs w (d .task); group = d .group; turn = d .turn; next = d .next }
+asEdit w d = record { task = withTotals w (d .task); group = d .group; turn = d .turn; next = d .next }
 
-requested-as : (w kinds : List ℕ) (x : Task) (y : Group) (t r : ℕ) → requesting kinds (totalsAs w x) y t r ≡ asEdit w (requesting kinds x y t r)
+requested-as : (w kinds : List ℕ) (x : Task) (y : Group) (t r : ℕ) → requesting kinds (withTotals w x) y t r ≡ asEdit w (requesting kinds x y t r)
 unfolding requesting
 requested-as w kinds x y t r = go (openIn kinds x r || y .holder is nobody)
   where
@@ -62,13 +63,13 @@ requested-as w kinds x y t r = go (openIn kinds x r || y .holder is nobody)
     granted z = keeping (opening r z) (record { holder = t; queue = y .queue }) stay
 
     queued : Task → Edit
-    queued z = keeping (standingAs (Waiting (lockOf (getD kinds r 0) r)) z) (record { holder = y .holder; queue = appended (y .queue) t }) (if getD kinds r 0 is short then stay else leave)
+    queued z = keeping (withStanding (Waiting (lockOf (getD kinds r 0) r)) z) (record { holder = y .holder; queue = appended (y .queue) t }) (if getD kinds r 0 is short then stay else leave)
 
-    go : (b : Bool) → (if b then granted (totalsAs w x) else queued (totalsAs w x)) ≡ asEdit w (if b then granted x else queued x)
+    go : (b : Bool) → (if b then granted (withTotals w x) else queued (withTotals w x)) ≡ asEdit w (if b then granted x else queued x)
     go true = refl
     go false = refl
 
-completed-as : (w kinds : List ℕ) (x : Task) (y : Group) (r : ℕ) → completing kinds (totalsAs w x) y r ≡ asEdit w (completing kinds x y r)
+completed-as : (w kinds : List ℕ) (x : Task) (y : Group) (r : ℕ) → completing kinds (withTotals w x) y r ≡ asEdit w (completing kinds x y r)
 unfolding completing
 completed-as w kinds x y r = go (openIn kinds (closing x) r)
   where
@@ -76,29 +77,29 @@ completed-as w kinds x y r = go (openIn kinds (closing x) r)
     outer z = record {
       task = closing z;
       group = record { holder = nobody; queue = y .queue };
-      turn = if getD kinds r 0 is short then soften else giveWay;
+      turn = if getD kinds r 0 is short then becomePreemptable else giveWay;
       next = if y .queue .len is 0 then nobody else waiter (y .queue) 0;
     }
 
-    go : (b : Bool) → (if b then keeping (closing (totalsAs w x)) y stay else outer (totalsAs w x)) ≡ asEdit w (if b then keeping (closing x) y stay else outer x)
+    go : (b : Bool) → (if b then keeping (closing (withTotals w x)) y stay else outer (withTotals w x)) ≡ asEdit w (if b then keeping (closing x) y stay else outer x)
     go true = refl
     go false = refl
 
-edited-as : (w kinds : List ℕ) (span clock : ℕ) (x : Task) (y : Group) (e : Event) → editing kinds span clock (totalsAs w x) y e ≡ asEdit w (editing kinds span clock x y e)
+edited-as : (w kinds : List ℕ) (due clock : ℕ) (x : Task) (y : Group) (e : Event) → editing kinds due clock (withTotals w x) y e ≡ asEdit w (editing kinds due clock x y e)
 unfolding editing
-edited-as w kinds span clock x y e =
+edited-as w kinds due clock x y e =
     go (e .kind is arrival) (e .kind is finish) (e .kind is asking) (e .kind is completion)
-    (requesting kinds x y (e .task) (e .resource)) (requesting kinds (totalsAs w x) y (e .task) (e .resource)) (requested-as w kinds x y (e .task) (e .resource))
-    (completing kinds x y (e .resource)) (completing kinds (totalsAs w x) y (e .resource)) (completed-as w kinds x y (e .resource))
+    (requesting kinds x y (e .task) (e .resource)) (requesting kinds (withTotals w x) y (e .task) (e .resource)) (requested-as w kinds x y (e .task) (e .resource))
+    (completing kinds x y (e .resource)) (completing kinds (withTotals w x) y (e .resource)) (completed-as w kinds x y (e .resource))
   where
     comes : Task → Edit
-    comes z = keeping (arriving clock (clock + span) z) y arrive
+    comes z = keeping (arriving clock due z) y arrive
 
     goes : Task → Edit
     goes z = keeping (departing z) y leave
 
     go : (a b c d : Bool) (R R′ : Edit) → R′ ≡ asEdit w R → (C C′ : Edit) → C′ ≡ asEdit w C
-        → (if a then comes (totalsAs w x) else if b then goes (totalsAs w x) else if c then R′ else if d then C′ else keeping (totalsAs w x) y stay)
+        → (if a then comes (withTotals w x) else if b then goes (withTotals w x) else if c then R′ else if d then C′ else keeping (withTotals w x) y stay)
         ≡ asEdit w (if a then comes x else if b then goes x else if c then R else if d then C else keeping x y stay)
     go true b c d R R′ p C C′ q = refl
     go false true c d R R′ p C C′ q = refl
@@ -106,14 +107,14 @@ edited-as w kinds span clock x y e =
     go false false false true R R′ p C C′ q = q
     go false false false false R R′ p C C′ q = refl
 
-handed-as : (w : List ℕ) (x : Task) (y : Group) (turn next : ℕ) → handing (totalsAs w x) y turn next ≡ asEdit w (handing x y turn next)
+handed-as : (w : List ℕ) (x : Task) (y : Group) (turn next : ℕ) → handing (withTotals w x) y turn next ≡ asEdit w (handing x y turn next)
 unfolding handing
 handed-as w x y turn next = refl
 
 -- time alone moves nobody, and who is handed a group leaves nothing
-passes-still : (kinds : List ℕ) (span clock : ℕ) (x : Task) (y : Group) (e : Event) → e .kind ≡ passing → editing kinds span clock x y e .turn ≡ stay
+passes-still : (kinds : List ℕ) (due clock : ℕ) (x : Task) (y : Group) (e : Event) → e .kind ≡ passing → editing kinds due clock x y e .turn ≡ stay
 unfolding editing
-passes-still kinds span clock x y e k =
+passes-still kinds due clock x y e k =
     rw (ne-eqb (e .kind) arrival (λ q. omega (arith, k, q)), ne-eqb (e .kind) finish (λ q. omega (arith, k, q)), ne-eqb (e .kind) asking (λ q. omega (arith, k, q)), ne-eqb (e .kind) completion (λ q. omega (arith, k, q)))
 
 pub heir-stays : (x : Task) (y : Group) (turn next : ℕ) → (handing x y turn next .turn ≡ leave) ⊎ (handing x y turn next .turn ≡ giveWay) → ⊥
@@ -177,7 +178,7 @@ module _ (s : State) (e : Event) (Q : Sound s) (ok : judge s e ≡ 0) (short-per
   unfolding charged
   groups-long = Q .steady .sized .groups
 
-  t-read : task s₁ t ≡ totalsAs (rowOf w t) (getD ts t noTask)
+  t-read : task s₁ t ≡ withTotals (rowOf w t) (getD ts t noTask)
   t-read = keeps-task s₁ (clock + n) ts gs p w own modes stands keeps₁ t t-in
 
   pub edit-may : (e .kind ≡ asking → getD ts t noTask .depth < mostRequests) × (e .kind ≡ completion → (0 < getD ts t noTask .depth) × (getD ts t noTask .depth ≤ mostRequests))
@@ -185,16 +186,16 @@ module _ (s : State) (e : Event) (Q : Sound s) (ok : judge s e ≡ 0) (short-per
 
   -- ---- the first edit
   abbrev d : Edit
-  d = editing kinds (period (s .setup) t) (clock + n) (getD ts t noTask) (getD gs g noGroup) e
+  d = editing kinds (dueAt (s .setup) t (clock + n)) (clock + n) (getD ts t noTask) (getD gs g noGroup) e
 
   first-edit : editOf e g s₁ ≡ asEdit (rowOf w t) d
   unfolding charged
   first-edit =
-      let span = period (s .setup) t in
-      ap (λ (k : ℕ). editing kinds span k (task s₁ t) (group s₁ g) e) (sym (keeps₁ .timed))
-      ∙ ap (λ (x : Task). editing kinds span (clock + n) x (group s₁ g) e) t-read
-      ∙ ap (λ (l : List Group). editing kinds span (clock + n) (totalsAs (rowOf w t) (getD ts t noTask)) (getD l g noGroup) e) (sym (keeps₁ .grouped))
-      ∙ edited-as (rowOf w t) kinds span (clock + n) (getD ts t noTask) (getD gs g noGroup) e
+      let due = dueAt (s .setup) t in
+      ap (λ (k : ℕ). editing kinds (due k) k (task s₁ t) (group s₁ g) e) (sym (keeps₁ .timed))
+      ∙ ap (λ (x : Task). editing kinds (due (clock + n)) (clock + n) x (group s₁ g) e) t-read
+      ∙ ap (λ (l : List Group). editing kinds (due (clock + n)) (clock + n) (withTotals (rowOf w t) (getD ts t noTask)) (getD l g noGroup) e) (sym (keeps₁ .grouped))
+      ∙ edited-as (rowOf w t) kinds (due (clock + n)) (clock + n) (getD ts t noTask) (getD gs g noGroup) e
 
   abbrev s₂ : State
   s₂ = stored t g (editOf e g s₁) s₁
@@ -223,18 +224,18 @@ module _ (s : State) (e : Event) (Q : Sound s) (ok : judge s e ≡ 0) (short-per
   bounded₂ : isBounded s₂ ≡ true
   unfolding charged
   bounded₂ = put-bounded s₁ (can .bounded) tasks-long t g _ _
-      (edited-deadline kinds (period (s .setup) t) (s₁ .clock) (task s₁ t) (group s₁ g) e latest (deadline-bounded s₁ (can .bounded) t t-in) (omega (arith, room s e Q ok, short-periods t)))
+      (edited-deadline kinds (dueAt (s .setup) t (s₁ .clock)) (s₁ .clock) (task s₁ t) (group s₁ g) e latest (deadline-bounded s₁ (can .bounded) t t-in) (omega (arith, room s e Q ok, short-periods t)))
 
-  pub told₂ : told (table (rankWith own₂ kinds (min (s .setup .resources) mostResources) gs₂) mostTasks) modes₂ ≡ jobs (s .setup) s₂
+  pub told₂ : jobsFrom (table (rankWith own₂ kinds (min (s .setup .resources) mostResources) gs₂) mostTasks) modes₂ ≡ jobs (s .setup) s₂
   unfolding charged
-  told₂ = keeps-told s₂ (clock + n) ts₂ gs₂ p w own₂ modes₂ stands₂ keeps₂ (length-set (s₁ .tasks) t (editOf e g s₁ .task) ∙ tasks-long) bounded₂
+  told₂ = keeps-jobs s₂ (clock + n) ts₂ gs₂ p w own₂ modes₂ stands₂ keeps₂ (length-set (s₁ .tasks) t (editOf e g s₁ .task) ∙ tasks-long) bounded₂
 
   moving : (d .turn ≡ leave) ⊎ (d .turn ≡ giveWay) → t < s .setup .tasks
   moving h = elim (decLt (e .kind) passing) [
     | yes l ↦ row11 s e Q ok (event-kinds s e Q ok .0, omega arith)
     | no l ↦
         let k : e .kind ≡ passing = omega (arith, event-kinds s e Q ok) in
-        let z : d .turn ≡ stay = passes-still kinds (period (s .setup) t) (clock + n) (getD ts t noTask) (getD gs g noGroup) e k in
+        let z : d .turn ≡ stay = passes-still kinds (dueAt (s .setup) t (clock + n)) (clock + n) (getD ts t noTask) (getD gs g noGroup) e k in
         absurd (⊎-elim (λ q. omega (arith, q, z)) (λ q. omega (arith, q, z)) h)
   ]
 
@@ -287,7 +288,7 @@ module _ (s : State) (e : Event) (Q : Sound s) (ok : judge s e ≡ 0) (short-per
       unfolding charged
       u-in = subst (λ (v : ℕ). v < mostTasks) u-is (next-in s₁ e can g g-is some₁ .0)
 
-      u-read : task s₃ u ≡ totalsAs (rowOf w u) (getD ts₂ u noTask)
+      u-read : task s₃ u ≡ withTotals (rowOf w u) (getD ts₂ u noTask)
       u-read = keeps-task s₃ (clock + n) ts₂ gs₂ p₃ w own₂ modes₂ stands₂ keeps₃ u u-in
 
       pub heir-may : getD ts₂ u noTask .depth < mostRequests
@@ -300,7 +301,7 @@ module _ (s : State) (e : Event) (Q : Sound s) (ok : judge s e ≡ 0) (short-per
       next-edit : handing (task s₃ u) (group s₃ g) (d .turn) u ≡ asEdit (rowOf w u) d₄
       next-edit =
           ap (λ (x : Task). handing x (group s₃ g) (d .turn) u) u-read
-          ∙ ap (λ (l : List Group). handing (totalsAs (rowOf w u) (getD ts₂ u noTask)) (getD l g noGroup) (d .turn) u) (sym (keeps₃ .grouped))
+          ∙ ap (λ (l : List Group). handing (withTotals (rowOf w u) (getD ts₂ u noTask)) (getD l g noGroup) (d .turn) u) (sym (keeps₃ .grouped))
           ∙ handed-as (rowOf w u) (getD ts₂ u noTask) (getD gs₂ g noGroup) (d .turn) u
 
       abbrev s₄ : State
@@ -337,9 +338,9 @@ module _ (s : State) (e : Event) (Q : Sound s) (ok : judge s e ≡ 0) (short-per
       bounded₄ : isBounded s₄ ≡ true
       bounded₄ = put-bounded s₃ bounded₃ tasks-long₃ u g _ _ (omega (arith, handed-deadline (task s₃ u) (group s₃ g) (d .turn) u, deadline-bounded s₃ bounded₃ u u-in))
 
-      pub told₄ : told (table (rankWith own₄ kinds (min (s .setup .resources) mostResources) gs₄) mostTasks) modes₄ ≡ jobs (s .setup) s₄
+      pub told₄ : jobsFrom (table (rankWith own₄ kinds (min (s .setup .resources) mostResources) gs₄) mostTasks) modes₄ ≡ jobs (s .setup) s₄
       unfolding charged movedBy
-      told₄ = keeps-told s₄ (clock + n) ts₄ gs₄ p₃ w own₄ modes₄ stands₄ keeps₄ (length-set (s₃ .tasks) u _ ∙ tasks-long₃) bounded₄
+      told₄ = keeps-jobs s₄ (clock + n) ts₄ gs₄ p₃ w own₄ modes₄ stands₄ keeps₄ (length-set (s₃ .tasks) u _ ∙ tasks-long₃) bounded₄
 
       abbrev s₅ : State
       s₅ = movedBy (handing (task s₃ u) (group s₃ g) (d .turn) u .turn) u s₄
@@ -361,7 +362,7 @@ module _ (s : State) (e : Event) (Q : Sound s) (ok : judge s e ≡ 0) (short-per
             sym (rw (ne-eqb (editOf e g s₁ .next) nobody some₁, u-is, ap (λ (z : Edit). z .turn) first-edit)) ∙ ends
 
 -- ---- the same over what the code has at hand: a set-up c, ticks, and records and tables under names of their own
-pub record Accepts (s : State) (e : Event) (c : SetUp) (clock : ℕ) (ts : List Task) (gs : List Group) (p : Processors) (totals own modes stands : List ℕ) (ticks : ℕ) : Type 0 where
+pub record Accepts (s : State) (e : Event) (c : Setup) (clock : ℕ) (ts : List Task) (gs : List Group) (p : Processors) (totals own modes stands : List ℕ) (ticks : ℕ) : Type 0 where
   pub sound : Sound s
   pub ok : judge s e ≡ 0
   pub given : c ≡ s .setup
@@ -369,7 +370,7 @@ pub record Accepts (s : State) (e : Event) (c : SetUp) (clock : ℕ) (ts : List 
   pub keeps : Keeps s clock ts gs p totals own modes stands
   pub stepped : ticks ≡ stepOf s e
 
-module _ {s : State} {e : Event} {c : SetUp} {clock : ℕ} {ts : List Task} {gs : List Group} {p : Processors} {totals own modes stands : List ℕ} {ticks : ℕ}
+module _ {s : State} {e : Event} {c : Setup} {clock : ℕ} {ts : List Task} {gs : List Group} {p : Processors} {totals own modes stands : List ℕ} {ticks : ℕ}
     (X : Accepts s e c clock ts gs p totals own modes stands ticks) where
   pub few-tasks : c .tasks ≤ mostTasks
   few-tasks = rw (X .given) (grouped s e (X .sound) (X .ok) .few-tasks)
@@ -386,13 +387,13 @@ module _ {s : State} {e : Event} {c : SetUp} {clock : ℕ} {ts : List Task} {gs 
   pub task-in : e .task < mostTasks
   task-in = inside s e (X .sound) (X .ok)
 
-  module _ (g : ℕ) (g-in : g < mostResources) (g-is : getD (names c) (e .resource) nobody < mostResources → g ≡ getD (names c) (e .resource) nobody) where
+  module _ (g : ℕ) (g-in : g < mostResources) (g-is : getD (names c) (e .resource) nothing < mostResources → g ≡ getD (names c) (e .resource) nothing) where
     at : (asking ≤ e .kind) × (e .kind ≤ completion) → g ≡ groupOf (s .setup) (e .resource)
     unfolding groupOf
     at k = (rw (X .given) at g-is) (group-in s e (X .sound) (X .ok) k)
 
     abbrev d₂ : Edit
-    d₂ = editing (c .kinds) (period c (e .task)) (clock + ticks) (getD ts (e .task) noTask) (getD gs g noGroup) e
+    d₂ = editing (c .kinds) (dueAt c (e .task) (clock + ticks)) (clock + ticks) (getD ts (e .task) noTask) (getD gs g noGroup) e
 
     pub may-edit : (e .kind ≡ asking → getD ts (e .task) noTask .depth < mostRequests) × (e .kind ≡ completion → (0 < getD ts (e .task) noTask .depth) × (getD ts (e .task) noTask .depth ≤ mostRequests))
     may-edit = edit-may s e (X .sound) (X .ok) (X .short) clock ts gs p totals own modes stands (X .keeps) g g-in at
@@ -402,7 +403,7 @@ module _ {s : State} {e : Event} {c : SetUp} {clock : ℕ} {ts : List Task} {gs 
       pub may-move : (x .turn ≡ leave) ⊎ (x .turn ≡ giveWay) → firstModes (c .tasks) modesₓ ≡ modesₓ
       may-move = rw (modes-is, x-is, X .given, X .stepped) (quiet₂ s e (X .sound) (X .ok) (X .short) clock ts gs p totals own modes stands (X .keeps) g g-in at)
 
-      module _ (p₃ : Processors) (moves : p₃ ≡ movedWith (x .turn) p (told (table (rankWith ownₓ (c .kinds) (min (c .resources) mostResources) (set gs g (x .group))) mostTasks) modesₓ) (e .task)) where
+      module _ (p₃ : Processors) (moves : p₃ ≡ movedWith (x .turn) p (jobsFrom (table (rankWith ownₓ (c .kinds) (min (c .resources) mostResources) (set gs g (x .group))) mostTasks) modesₓ) (e .task)) where
         rule-moves : p₃ ≡ movedWith (d s e (X .sound) (X .ok) (X .short) clock ts gs p totals own modes stands (X .keeps) g g-in at .turn) p (jobs (s .setup) (s₂ s e (X .sound) (X .ok) (X .short) clock ts gs p totals own modes stands (X .keeps) g g-in at)) (e .task)
         rule-moves = (rw (own-is, modes-is, x-is, X .given, X .stepped) at moves) ∙ ap (λ (j : Jobs). movedWith (d s e (X .sound) (X .ok) (X .short) clock ts gs p totals own modes stands (X .keeps) g g-in at .turn) p j (e .task)) (told₂ s e (X .sound) (X .ok) (X .short) clock ts gs p totals own modes stands (X .keeps) g g-in at)
 
@@ -432,7 +433,7 @@ module _ {s : State} {e : Event} {c : SetUp} {clock : ℕ} {ts : List Task} {gs 
             pub next-moves : (y .turn ≡ leave) ⊎ (y .turn ≡ giveWay) → firstModes (c .tasks) modesᵧ ≡ modesᵧ
             next-moves h = absurd (heir-stays _ _ _ _ (rw y-is at h))
 
-            module _ (p₅ : Processors) (moves₅ : p₅ ≡ movedWith (y .turn) p₃ (told (table (rankWith ownᵧ (c .kinds) (min (c .resources) mostResources) (set (set gs g (x .group)) g (y .group))) mostTasks) modesᵧ) (x .next)) where
+            module _ (p₅ : Processors) (moves₅ : p₅ ≡ movedWith (y .turn) p₃ (jobsFrom (table (rankWith ownᵧ (c .kinds) (min (c .resources) mostResources) (set (set gs g (x .group)) g (y .group))) mostTasks) modesᵧ) (x .next)) where
               rule-moves₅ : p₅ ≡ movedWith (d₄ s e (X .sound) (X .ok) (X .short) clock ts gs p totals own modes stands (X .keeps) g g-in at p₃ rule-moves some₃ .turn) p₃ (jobs (s .setup) (s₄ s e (X .sound) (X .ok) (X .short) clock ts gs p totals own modes stands (X .keeps) g g-in at p₃ rule-moves some₃)) (d s e (X .sound) (X .ok) (X .short) clock ts gs p totals own modes stands (X .keeps) g g-in at .next)
               rule-moves₅ = (rw (own-is₄, modes-is₄, y-law, own-is, modes-is, x-is, X .given, X .stepped) at moves₅) ∙ ap (λ (j : Jobs). movedWith (d₄ s e (X .sound) (X .ok) (X .short) clock ts gs p totals own modes stands (X .keeps) g g-in at p₃ rule-moves some₃ .turn) p₃ j (d s e (X .sound) (X .ok) (X .short) clock ts gs p totals own modes stands (X .keeps) g g-in at .next)) (told₄ s e (X .sound) (X .ok) (X .short) clock ts gs p totals own modes stands (X .keeps) g g-in at p₃ rule-moves some₃)
 

@@ -10,21 +10,22 @@ use lib.Seq.{set-getD, set-set, set-out, getD-set-same, getD-set-other}
 use borrow.Author.Tests.{eq-eqb, ne-eqb}
 use Rattle.search.specs.Words.{if_then_else_, _is_}
 use Rattle.queue.specs.Waiting.{waiter as queued, withoutFirst}
-use Rattle.input.specs.Limits.{mostTasks, mostResources, short}
-use Rattle.input.specs.Words.{period, kind}
-use Rattle.input.specs.Kinds.{arrival, finish, request as asking, completion}
+use Rattle.numbers.specs.Limits.{mostTasks, mostResources, mostRequests, nobody}
+use Rattle.input.specs.Kinds.{short, arrival, finish, request as asking, completion}
+use Rattle.input.specs.Words.{dueAt, kind}
 use Rattle.input.specs.declared.Event.{Event}
 use Rattle.setups.specs.Naming.{groupOf}
-use Rattle.protocol.specs.Words.{mostRequests, nobody, noTask, noGroup, askedOf, task, group, asked, depth, request, holder, len, waiter}
-use Rattle.protocol.specs.Locks.{withRequests, standingAs, opening, closing, arriving, departing, onTask, openOfKind, opens, queues, closes, frees, nextAt, calls, passes}
-use Rattle.protocol.specs.Events.{cold, arrives, leaves, softens, givesWay, arriveEvent, finishEvent, requestEvent, completeEvent, act}
+use Rattle.protocol.specs.Records.{noTask, noGroup, withRequests, withStanding, withDepth}
+use Rattle.protocol.specs.Words.{askedOf, task, group, asked, depth, request, holder, len, waiter}
+use Rattle.protocol.specs.Locks.{opening, closing, arriving, departing, onTask, openOfKind, opens, enqueues, closes, frees, nextAt, dequeues, passes}
+use Rattle.protocol.specs.Events.{cold, arrives, leaves, becomesPreemptable, givesWay, arriveEvent, finishEvent, requestEvent, completeEvent, act}
 use Rattle.protocol.specs.declared.Standing.{Standing}
 use Rattle.protocol.specs.declared.Standing.the-variants.{Active}
 use Rattle.protocol.specs.declared.Task.{Task}
 use Rattle.protocol.specs.declared.Group.{Group}
 use Rattle.protocol.specs.declared.State.{State}
 use Rattle.locking.specs.Acting.{CanPass, CanAct}
-use Rattle.locking.specs.Edits.{stay, soften, arrive, leave, giveWay, openIn, keeping, requesting, completing, editing, handing, put, stored, movedBy, handed, editOf, acted}
+use Rattle.locking.specs.Edits.{stay, becomePreemptable, arrive, leave, giveWay, openIn, keeping, requesting, completing, editing, handing, put, stored, movedBy, handed, editOf, acted}
 use Rattle.locking.specs.declared.acting.Edit.{Edit}
 use Rattle.locking.proofs.Branching.{request-open, request-spin, request-wait, complete-inner, complete-short, complete-long}
 
@@ -34,8 +35,8 @@ module _ (s : State) (t : ℕ) where
   unfolding movedBy
   moved-stay = refl
 
-  moved-soften : movedBy soften t s ≡ softens (s .setup) t s
-  unfolding movedBy softens
+  moved-soften : movedBy becomePreemptable t s ≡ becomesPreemptable (s .setup) t s
+  unfolding movedBy becomesPreemptable
   moved-soften = refl
 
   moved-arrive : movedBy arrive t s ≡ arrives cold (s .setup) t s
@@ -54,7 +55,7 @@ module _ (s : State) (t : ℕ) where
 module _ (kinds : List ℕ) (x : Task) (y : Group) (P : Edit → Type 0) where
   -- P holds where x has another standing and other open requests, and nobody is handed the group
   abbrev Keeps : Type 0
-  Keeps = (standing : Standing) (requests : List ℕ) (depth : ℕ) (z : Group) (turn : ℕ) → P (keeping (withRequests standing requests depth x) z turn)
+  Keeps = (standing : Standing) (requests : List ℕ) (depth : ℕ) (z : Group) (turn : ℕ) → P (keeping (withStanding standing (withRequests requests (withDepth depth x))) z turn)
 
   requesting-by : (t r : ℕ) → Keeps → P (requesting kinds x y t r)
   unfolding requesting
@@ -72,10 +73,10 @@ module _ (kinds : List ℕ) (x : Task) (y : Group) (P : Edit → Type 0) where
       go true h = rw h (f _ _ _)
       go false h = rw h (f _ _ _)
 
-  editing-by : (span clock : ℕ) (e : Event) → P (keeping (arriving clock (clock + span) x) y arrive) → P (keeping (departing x) y leave) → Keeps
-      → (e .kind ≡ completion → P (completing kinds x y (e .resource))) → P (editing kinds span clock x y e)
+  editing-by : (due clock : ℕ) (e : Event) → P (keeping (arriving clock due x) y arrive) → P (keeping (departing x) y leave) → Keeps
+      → (e .kind ≡ completion → P (completing kinds x y (e .resource))) → P (editing kinds due clock x y e)
   unfolding editing
-  editing-by span clock e comes goes keeps ends = elim (ℕ-discrete (e .kind) arrival) [
+  editing-by due clock e comes goes keeps ends = elim (ℕ-discrete (e .kind) arrival) [
     | yes k ↦ rw (eq-eqb (e .kind) arrival k) comes
     | no a ↦ elim (ℕ-discrete (e .kind) finish) [
       | yes k ↦ rw (ne-eqb (e .kind) arrival a, eq-eqb (e .kind) finish k) goes
@@ -90,11 +91,11 @@ module _ (kinds : List ℕ) (x : Task) (y : Group) (P : Edit → Type 0) where
   ]
 
 -- no edit makes a deadline but an arrival
-module _ (kinds : List ℕ) (span clock : ℕ) (x : Task) (y : Group) (e : Event) where
-  pub edited-deadline : (m : ℕ) → x .deadline ≤ m → clock + span ≤ m → editing kinds span clock x y e .task .deadline ≤ m
-  edited-deadline m had due =
+module _ (kinds : List ℕ) (due clock : ℕ) (x : Task) (y : Group) (e : Event) where
+  pub edited-deadline : (m : ℕ) → x .deadline ≤ m → due ≤ m → editing kinds due clock x y e .task .deadline ≤ m
+  edited-deadline m had soon =
       let P : Edit → Type 0 = λ d. d .task .deadline ≤ m in
-      editing-by kinds x y P span clock e due (omega arith) (λ s q n z turn. had) (λ k. completing-by kinds x y P (e .resource) (λ z turn next. had))
+      editing-by kinds x y P due clock e soon (omega arith) (λ s q n z turn. had) (λ k. completing-by kinds x y P (e .resource) (λ z turn next. had))
 
 module _ (x : Task) (y : Group) (turn next : ℕ) where
   pub handed-deadline : handing x y turn next .task .deadline ≡ x .deadline
@@ -115,8 +116,8 @@ module _ (s : State) (g : ℕ) where
   kept t x = rw (set-getD (s .groups) g noGroup)
 
   passes-stored : (u : ℕ) → u ≡ nextAt s g → u < length (s .tasks) → g < length (s .groups)
-      → put u g (opening (askedOf (task s u .standing)) (standingAs Active (task s u))) (record { holder = u; queue = withoutFirst (group s g .queue) }) s ≡ passes g s
-  unfolding passes opens calls asked
+      → put u g (opening (askedOf (task s u .standing)) (withStanding Active (task s u))) (record { holder = u; queue = withoutFirst (group s g .queue) }) s ≡ passes g s
+  unfolding passes opens dequeues asked
   passes-stored u h lt lg = rw (← h, getD-set-same (s .tasks) u _ noTask lt, set-set (s .tasks) u, getD-set-same (s .groups) g _ noGroup lg, set-set (s .groups) g)
 
   handed-passes : (turn u : ℕ) → u ≡ nextAt s g → u < length (s .tasks) → g < length (s .groups)
@@ -152,7 +153,7 @@ module _ (s : State) (e : Event) (g : ℕ) where
   acted-arrival : e .kind ≡ arrival → acted e g s ≡ act cold (s .setup) e s
   unfolding acted editing act arriveEvent
   acted-arrival k =
-      let f = arriving (s .clock) (s .clock + period (s .setup) (e .task)) in
+      let f = arriving (s .clock) (dueAt (s .setup) (e .task) (s .clock)) in
       rw (eq-eqb (e .kind) arrival k)
       (ap (movedBy arrive (e .task)) (kept s g (e .task) (f (task s (e .task)))) ∙ moved-arrive (onTask (e .task) f s) (e .task))
 
@@ -180,13 +181,13 @@ module _ (s : State) (e : Event) (g : ℕ) where
   unfolding requesting openOfKind depth request holder opens
   begun-open h = rw h (moved-stay _ (e .task))
 
-  begun-spin : granted ≡ false → kind (s .setup) (e .resource) ≡ short → wholly (e .task) g begun s ≡ queues (s .setup) (e .task) (e .resource) g s
-  unfolding requesting openOfKind depth request holder queues
+  begun-spin : granted ≡ false → kind (s .setup) (e .resource) ≡ short → wholly (e .task) g begun s ≡ enqueues (s .setup) (e .task) (e .resource) g s
+  unfolding requesting openOfKind depth request holder enqueues
   begun-spin h z = rw (h, eq-eqb (kind (s .setup) (e .resource)) short z) (moved-stay _ (e .task))
 
   begun-wait : granted ≡ false → (kind (s .setup) (e .resource) ≡ short → ⊥)
-      → wholly (e .task) g begun s ≡ leaves (s .setup) (e .task) (queues (s .setup) (e .task) (e .resource) g s)
-  unfolding requesting openOfKind depth request holder queues
+      → wholly (e .task) g begun s ≡ leaves (s .setup) (e .task) (enqueues (s .setup) (e .task) (e .resource) g s)
+  unfolding requesting openOfKind depth request holder enqueues
   begun-wait h z = rw (h, ne-eqb (kind (s .setup) (e .resource)) short z) (moved-leave _ (e .task))
 
   -- ---- a completion
@@ -223,7 +224,7 @@ module _ (s : State) (e : Event) (g : ℕ) where
     unfolding completing len waiter
     ended-next n = rw (h, ne-eqb (len s g) 0 n)
 
-    ended-soft : kind (s .setup) (e .resource) ≡ short → len s g ≡ 0 → wholly (e .task) g ended s ≡ softens (s .setup) (e .task) freed
+    ended-soft : kind (s .setup) (e .resource) ≡ short → len s g ≡ 0 → wholly (e .task) g ended s ≡ becomesPreemptable (s .setup) (e .task) freed
     unfolding completing closes frees len
     ended-soft z n = rw (h, eq-eqb (kind (s .setup) (e .resource)) short z, eq-eqb (len s g) 0 n) (moved-soften _ (e .task))
 
@@ -234,8 +235,8 @@ module _ (s : State) (e : Event) (g : ℕ) where
     abbrev passing : ℕ → Edit
     passing turn = record { task = closing (task s (e .task)); group = record { holder = nobody; queue = group s g .queue }; turn = turn; next = nextAt s g }
 
-    soft-passes : passes g (softens (s .setup) (e .task) freed) ≡ softens (s .setup) (e .task) (passes g freed)
-    unfolding passes opens calls softens asked waiter
+    soft-passes : passes g (becomesPreemptable (s .setup) (e .task) freed) ≡ becomesPreemptable (s .setup) (e .task) (passes g freed)
+    unfolding passes opens dequeues becomesPreemptable asked waiter
     soft-passes = refl
 
     module _ (n : len s g ≡ 0 → ⊥) (u-in : nextAt s g < mostTasks) (g-in : g < mostResources) (tasked : length (s .tasks) ≡ mostTasks) (grouped : length (s .groups) ≡ mostResources) where
@@ -251,8 +252,8 @@ module _ (s : State) (e : Event) (g : ℕ) where
       unfolding frees closes
       freed-next = ap (λ (y : Group). queued (y .queue) 0) (getD-set-same (s .groups) g (record { holder = nobody; queue = group s g .queue }) noGroup (omega (arith, grouped, g-in)))
 
-      soft-next : nextAt s g ≡ nextAt (softens (s .setup) (e .task) freed) g
-      unfolding softens waiter
+      soft-next : nextAt s g ≡ nextAt (becomesPreemptable (s .setup) (e .task) freed) g
+      unfolding becomesPreemptable waiter
       soft-next = sym freed-next
 
       way-next : nextAt s g ≡ nextAt (givesWay (s .setup) (e .task) freed) g
@@ -262,17 +263,17 @@ module _ (s : State) (e : Event) (g : ℕ) where
       some-next : nextAt s g ≡ nobody → ⊥
       some-next q = omega (arith, q, u-in)
 
-      ended-soft-pass : kind (s .setup) (e .resource) ≡ short → wholly (e .task) g ended s ≡ softens (s .setup) (e .task) (passes g freed)
-      unfolding completing closes frees len waiter softens
+      ended-soft-pass : kind (s .setup) (e .resource) ≡ short → wholly (e .task) g ended s ≡ becomesPreemptable (s .setup) (e .task) (passes g freed)
+      unfolding completing closes frees len waiter becomesPreemptable
       ended-soft-pass z = rw (h, eq-eqb (kind (s .setup) (e .resource)) short z, ne-eqb (len s g) 0 n)
-          (wholly-some s g (e .task) (passing soften) some-next
-          ∙ ap (handed g soften (nextAt s g)) (moved-soften _ (e .task))
-          ∙ handed-passes (softens (s .setup) (e .task) freed) g soften (nextAt s g) soft-next (omega (arith, freed-tasks, u-in)) (omega (arith, freed-groups, g-in))
+          (wholly-some s g (e .task) (passing becomePreemptable) some-next
+          ∙ ap (handed g becomePreemptable (nextAt s g)) (moved-soften _ (e .task))
+          ∙ handed-passes (becomesPreemptable (s .setup) (e .task) freed) g becomePreemptable (nextAt s g) soft-next (omega (arith, freed-tasks, u-in)) (omega (arith, freed-groups, g-in))
           ∙ moved-stay _ (nextAt s g) ∙ soft-passes)
 
       ended-way-pass : (kind (s .setup) (e .resource) ≡ short → ⊥)
           → wholly (e .task) g ended s ≡ arrives cold (s .setup) (nextAt s g) (passes g (givesWay (s .setup) (e .task) freed))
-      unfolding completing closes frees len waiter givesWay passes opens calls
+      unfolding completing closes frees len waiter givesWay passes opens dequeues
       ended-way-pass z = rw (h, ne-eqb (kind (s .setup) (e .resource)) short z, ne-eqb (len s g) 0 n)
           (wholly-some s g (e .task) (passing giveWay) some-next
           ∙ ap (handed g giveWay (nextAt s g)) (moved-way _ (e .task))
@@ -354,7 +355,7 @@ module _ (s : State) (e : Event) (can : CanAct s e) where
     -- by a completion alone
     next-by : (P : Edit → Type 0) → (e .kind ≡ completion → (ended s e g .next ≡ nobody → ⊥) → P (ended s e g)) → (editOf e g s .next ≡ nobody → ⊥) → P (editOf e g s)
     next-by P f some = elim (ℕ-discrete (e .kind) completion) [
-      | no q ↦ absurd (some (editing-by (s .setup .kinds) (task s (e .task)) (group s g) (λ (d : Edit). d .next ≡ nobody) (period (s .setup) (e .task)) (s .clock) e refl refl (λ t r n z turn. refl) (λ k. absurd (q k))))
+      | no q ↦ absurd (some (editing-by (s .setup .kinds) (task s (e .task)) (group s g) (λ (d : Edit). d .next ≡ nobody) (dueAt (s .setup) (e .task) (s .clock)) (s .clock) e refl refl (λ t r n z turn. refl) (λ k. absurd (q k))))
       | yes k ↦ subst P (sym (edit-ended s e g k)) (f k (λ z. some (ap (λ (d : Edit). d .next) (edit-ended s e g k) ∙ z)))
     ]
 

@@ -10,7 +10,8 @@ use lib.Seq.{getD-set-same, getD-set-other}
 use Rattle.input.specs.Layout.{eventIn, eventCount, eventBytes}
 use Rattle.input.proofs.Bytes.{event-read}
 use Rattle.input.specs.declared.Event.{Event}
-use Rattle.protocol.specs.Words.{mostRequests, task, depth}
+use Rattle.numbers.specs.Limits.{mostRequests, mostProcessors}
+use Rattle.protocol.specs.Words.{task, depth}
 use Rattle.protocol.specs.Sound.{sound}
 use Rattle.protocol.specs.Events.{step}
 use Rattle.protocol.specs.declared.State.{State}
@@ -18,8 +19,7 @@ use Rattle.protocol.specs.declared.Reply.{Reply}
 use Rattle.protocol.proofs.Statements.{Sound}
 use Rattle.protocol.proofs.Reflect.{Shaped, sound-of-test, test-of-sound}
 use Rattle.protocol.proofs.Step.{step-sound, step-setup}
-use Rattle.processors.specs.Limits.{processors}
-use Rattle.states.specs.Writing.{lineSize, places, lineOf, written}
+use Rattle.states.specs.Writing.{snapshotSize, places, snapshotOf, written}
 use Rattle.locking.specs.Playing.{playable, playedTo, replyTo, writtenTo, played}
 use Rattle.locking.proofs.Accepted.{unsound-stepped}
 use Rattle.states.proofs.Writing.{written-long}
@@ -66,13 +66,13 @@ module _ (s : State) (part out : List ℕ) where
   long-along (suc n) = written-long (writtenTo s part out n) _ _ ∙ long-along n
 
   -- there is room for the line of a playable event
-  pub room-along : (n : ℕ) → n < playable part out → lineSize * n + lineSize ≤ length (writtenTo s part out n)
+  pub room-along : (n : ℕ) → n < playable part out → snapshotSize * n + snapshotSize ≤ length (writtenTo s part out n)
   unfolding playable
   room-along n l = omega (arith, long-along n)
 
   -- one event more
-  pub buffer-turn : (n answer : ℕ) (x : State) (line : List ℕ) → answer ≡ replyTo s part n .answer → x ≡ replyTo s part n .state → line ≡ lineOf answer (x .processors)
-      → written (writtenTo s part out n) (lineSize * n) line ≡ writtenTo s part out (n + 1)
+  pub buffer-turn : (n answer : ℕ) (x : State) (line : List ℕ) → answer ≡ replyTo s part n .answer → x ≡ replyTo s part n .state → line ≡ snapshotOf answer (x .processors)
+      → written (writtenTo s part out n) (snapshotSize * n) line ≡ writtenTo s part out (n + 1)
   unfolding writtenTo
   buffer-turn n answer x line a h l = rw (add-one n, l, a, h)
 
@@ -82,7 +82,7 @@ unfolding written
 written-kept bytes at [] i l = refl
 written-kept bytes at (x ∷ text) i l = written-kept (set bytes at x) (suc at) text i (omega arith) ∙ getD-set-other bytes at i x 0 (λ q. omega (arith, q))
 
-module _ (s : State) (e : Event) (out : List ℕ) (long : length out ≡ lineSize) where
+module _ (s : State) (e : Event) (out : List ℕ) (long : length out ≡ snapshotSize) where
   one-event : playable (eventBytes e) out ≡ 1
   unfolding playable eventCount
   one-event = rw long
@@ -92,8 +92,8 @@ module _ (s : State) (e : Event) (out : List ℕ) (long : length out ≡ lineSiz
   one-state = ap (λ (n : ℕ). playedTo s (eventBytes e) n) one-event ∙ ap (λ (x : Event). step s x .state) (event-read e)
 
   pub one-answer : getD (played s (eventBytes e) out .1) 0 0 ≡ step s e .answer
-  unfolding played writtenTo playedTo lineOf written
+  unfolding played writtenTo playedTo snapshotOf written
   one-answer =
       let r = step s (eventIn (eventBytes e) 0) in
       ap (λ (n : ℕ). getD (writtenTo s (eventBytes e) out n) 0 0) one-event
-      ∙ written-kept (set out 0 (r .answer)) 1 (places (r .state .processors) processors) 0 (omega arith) ∙ getD-set-same out 0 (r .answer) 0 (omega (arith, long)) ∙ ap (λ (x : Event). step s x .answer) (event-read e)
+      ∙ written-kept (set out 0 (r .answer)) 1 (places (r .state .processors) mostProcessors) 0 (omega arith) ∙ getD-set-same out 0 (r .answer) 0 (omega (arith, long)) ∙ ap (λ (x : Event). step s x .answer) (event-read e)

@@ -7,13 +7,14 @@ use native.Mathlib.Decide.{ℕ-discrete}
 use lib.ListN.{length}
 use lib.Seq.{getD-set-same, getD-set-other}
 use Rattle.search.proofs.Tests.{tests}
-use Rattle.input.specs.Limits.{mostTasks, mostResources}
-use Rattle.protocol.specs.Words.{noTask, task}
+use Rattle.numbers.specs.Limits.{mostTasks, mostResources}
+use Rattle.protocol.specs.Records.{noTask}
+use Rattle.protocol.specs.Words.{task}
 use Rattle.protocol.specs.declared.Task.{Task}
 use Rattle.protocol.specs.declared.Group.{Group}
 use Rattle.protocol.specs.declared.State.{State}
-use Rattle.views.specs.Bounds.{latest, isBounded}
-use Rattle.views.proofs.Bounding.{resources-bounded, deadline-bounded}
+use Rattle.priorities.specs.Bounds.{latest, isBounded}
+use Rattle.priorities.proofs.Bounding.{resources-bounded, deadline-bounded}
 use Rattle.locking.specs.Edits.{put}
 
 pub within-bounds : (s : State) → s .setup .resources ≤ mostResources → ((t : ℕ) → t < mostTasks → task s t .deadline ≤ latest) → isBounded s ≡ true

@@ -12,16 +12,17 @@ use borrow.Author.Tests.{ne-eqb}
 use Rattle.search.specs.Words.{if_then_else_, _is_}
 use Rattle.search.specs.Table.{table}
 use Rattle.search.proofs.Tables.{table-length}
-use Rattle.processors.specs.Limits.{processors}
+use Rattle.numbers.specs.Limits.{mostProcessors}
 use Rattle.processors.specs.Words.{linkOf, runOf}
 use Rattle.processors.specs.declared.Processors.{Processors}
-use Rattle.protocol.specs.Words.{totalCount, absent, spinning, suspended, sum}
+use Rattle.protocol.specs.Records.{totalCount}
+use Rattle.protocol.specs.Words.{absent, spinning, suspended, sum}
 use Rattle.protocol.specs.Situations.{situationOf, totalOf}
 use Rattle.protocol.specs.declared.Situation.{Situation}
 use Rattle.protocol.specs.declared.Situation.the-variants.{Running, Spinning, LinkedOnly, Ready, Suspended}
 
 pub total-low : (i x t : ℕ) (p : Processors) (y : Situation) → i ≡ totalOf y → y ≡ situationOf x p t → (x ≡ absent → ⊥) → i < totalCount
-total-low i x t p y e f h = rw (e, f, ne-eqb x absent h) (go (x is suspended) (ltb (runOf p t) processors) (x is spinning) (ltb (linkOf p t) processors))
+total-low i x t p y e f h = rw (e, f, ne-eqb x absent h) (go (x is suspended) (ltb (runOf p t) mostProcessors) (x is spinning) (ltb (linkOf p t) mostProcessors))
   where
     go : (a b c d : Bool) → totalOf (if a then Suspended else if b then (if c then Spinning else Running) else if d then LinkedOnly else Ready) < totalCount
     go true b c d = omega arith

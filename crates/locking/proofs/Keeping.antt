@@ -11,22 +11,23 @@ use lib.Seq.{getD-set-same, getD-set-other}
 use Rattle.search.specs.Words.{if_then_else_, _isn't_}
 use Rattle.search.specs.Table.{table}
 use Rattle.search.proofs.Tables.{table-length, table-at, table-of, table-same}
-use Rattle.processors.specs.Words.{told}
+use Rattle.processors.specs.Words.{jobsFrom}
 use Rattle.processors.specs.declared.Processors.{Processors}
-use Rattle.input.specs.Limits.{mostTasks, mostResources}
-use Rattle.input.specs.declared.SetUp.{SetUp}
-use Rattle.protocol.specs.Words.{absent, noTask, standingNo, stand, task}
+use Rattle.numbers.specs.Limits.{mostTasks, mostResources}
+use Rattle.input.specs.declared.Setup.{Setup}
+use Rattle.protocol.specs.Words.{absent, standingNo, stand, task}
+use Rattle.protocol.specs.Records.{noTask, withProcessors, withTotals}
 use Rattle.protocol.specs.Ranks.{effective, jobs}
 use Rattle.protocol.specs.Situations.{situation, totalOf}
-use Rattle.protocol.specs.Events.{withProcessors, counting, charged}
+use Rattle.protocol.specs.Events.{counting, charged}
 use Rattle.protocol.specs.declared.Task.{Task}
 use Rattle.protocol.specs.declared.Group.{Group}
 use Rattle.protocol.specs.declared.State.{State}
 use Rattle.protocol.proofs.Reflect.{Shaped}
-use Rattle.views.specs.Bounds.{isBounded, rankBy, modeIn, rankWith}
-use Rattle.views.proofs.Telling.{ranks-ruled, modes-ruled}
+use Rattle.priorities.specs.Bounds.{isBounded, rankBy, modeIn, rankWith}
+use Rattle.priorities.proofs.Telling.{ranks-ruled, modes-ruled}
 use Rattle.locking.specs.Edits.{put}
-use Rattle.locking.specs.Totals.{allTotals, rowOf, totalsAs, counted, totalsIn, chargedTo}
+use Rattle.locking.specs.Totals.{allTotals, rowOf, counted, totalsIn, chargedTo}
 use Rattle.locking.specs.Keeping.{keptIn, Keeps}
 use Rattle.locking.proofs.Totals.{counted-start, counted-at, counted-set, counted-charged, charged-length}
 
@@ -79,7 +80,7 @@ keeps-start s Z = record {
 }
 
 module _ (s : State) (clock : ℕ) (ts : List Task) (gs : List Group) (p : Processors) (totals own modes stands : List ℕ) (K : Keeps s clock ts gs p totals own modes stands) where
-  pub keeps-task : (t : ℕ) → t < mostTasks → task s t ≡ totalsAs (rowOf totals t) (getD ts t noTask)
+  pub keeps-task : (t : ℕ) → t < mostTasks → task s t ≡ withTotals (rowOf totals t) (getD ts t noTask)
   keeps-task t l = ap (λ (l : List Task). getD l t noTask) (K .recorded) ∙ counted-at ts totals t l
 
   pub keeps-charge : (n m : ℕ) → m ≤ mostTasks → ((t : ℕ) → m ≤ t → t < mostTasks → stand s t ≡ absent)
@@ -98,10 +99,10 @@ module _ (s : State) (clock : ℕ) (ts : List Task) (gs : List Group) (p : Proce
   }
 
   pub keeps-store : (t g : ℕ) (x : Task) (y : Group) → t < mostTasks → length (s .tasks) ≡ mostTasks
-      → Keeps (put t g (totalsAs (rowOf totals t) x) y s) clock (set ts t x) (set gs g y) p totals
+      → Keeps (put t g (withTotals (rowOf totals t) x) y s) clock (set ts t x) (set gs g y) p totals
       (set own t (rankBy (x .deadline) t)) (set modes t (modeIn (s .setup .kinds) x)) (set stands t (standingNo (x .standing)))
   keeps-store t g x y l long =
-      let X = totalsAs (rowOf totals t) x in
+      let X = withTotals (rowOf totals t) x in
       record {
         timed = K .timed;
         recorded = ap (λ (a : List Task). set a t X) (K .recorded) ∙ sym (counted-set ts totals t x l (K .few));
@@ -128,13 +129,13 @@ module _ (s : State) (clock : ℕ) (ts : List Task) (gs : List Group) (p : Proce
   }
 
   -- what the moves are told is the jobs of the state
-  pub keeps-told : length (s .tasks) ≡ mostTasks → isBounded s ≡ true → told (table (rankWith own (s .setup .kinds) (min (s .setup .resources) mostResources) gs) mostTasks) modes ≡ jobs (s .setup) s
+  pub keeps-jobs : length (s .tasks) ≡ mostTasks → isBounded s ≡ true → jobsFrom (table (rankWith own (s .setup .kinds) (min (s .setup .resources) mostResources) gs) mostTasks) modes ≡ jobs (s .setup) s
   unfolding jobs
-  keeps-told long h =
-      ap (λ (l : List ℕ). told l modes)
+  keeps-jobs long h =
+      ap (λ (l : List ℕ). jobsFrom l modes)
       (ap (λ (l : List Group). table (rankWith own (s .setup .kinds) (min (s .setup .resources) mostResources) l) mostTasks) (K .grouped) ∙ ranks-ruled s long h own (K .ranked))
-      ∙ ap (told (table (effective (s .setup) s) mostTasks)) (K .ready ∙ modes-ruled s)
+      ∙ ap (jobsFrom (table (effective (s .setup) s) mostTasks)) (K .ready ∙ modes-ruled s)
 
   -- the state put together again
-  pub keeps-state : (c : SetUp) (l : List Task) → c ≡ s .setup → l ≡ counted ts totals → record { setup = c; clock = clock; tasks = l; groups = gs; processors = p } ≡ s
+  pub keeps-state : (c : Setup) (l : List Task) → c ≡ s .setup → l ≡ counted ts totals → record { setup = c; clock = clock; tasks = l; groups = gs; processors = p } ≡ s
   keeps-state c l c-is l-is = rw (c-is, l-is ∙ sym (K .recorded), K .timed, K .grouped, K .placed)

@@ -18,11 +18,11 @@ use Rattle.search.specs.Table.{table}
 use Rattle.search.proofs.Firsts.{first-law}
 use Rattle.search.proofs.Tables.{getD-any, replicate-at, table-at, table-of, table-same}
 use Rattle.search.proofs.Tests.{anyBelow-iff, anyBelow-none-iff}
-use Rattle.processors.specs.Limits.{processors, nobody}
+use Rattle.numbers.specs.Limits.{mostProcessors, nobody, mostTasks}
 use Rattle.processors.specs.Words.{placeOf, linkOf, runOf}
 use Rattle.processors.specs.declared.Processors.{Processors}
-use Rattle.input.specs.Limits.{mostTasks}
-use Rattle.protocol.specs.Words.{totalCount, absent, spinning, suspended}
+use Rattle.protocol.specs.Records.{totalCount}
+use Rattle.protocol.specs.Words.{absent, spinning, suspended}
 use Rattle.protocol.specs.Situations.{situationOf, totalOf}
 use Rattle.protocol.specs.declared.Situation.the-variants.{Running, Spinning, LinkedOnly, Ready, Suspended}
 use Rattle.locking.specs.Totals.{markedBy, placeBy, totalBy}
@@ -74,19 +74,19 @@ any-first n ok =
       | no h ↦ anyBelow-none-iff n ok .1 (λ i g. f .before i (omega arith) (omega arith)) ∙ sym (le-ltb (first ok 0 n) n (omega arith))
     ]
 
-pub marked-all : (place : ℕ) (tasks l m : List ℕ) → Marked place tasks l processors m → m ≡ markedBy place tasks l
+pub marked-all : (place : ℕ) (tasks l m : List ℕ) → Marked place tasks l mostProcessors m → m ≡ markedBy place tasks l
 marked-all place tasks l m r =
-    table-of (λ t. if ltb (placeOf tasks t) processors then place else getD l t 0) m mostTasks 0 (r .long)
-    (λ t h. r .at t h ∙ rw (any-first processors (λ j. getD tasks j nobody is t)))
+    table-of (λ t. if ltb (placeOf tasks t) mostProcessors then place else getD l t 0) m mostTasks 0 (r .long)
+    (λ t h. r .at t h ∙ rw (any-first mostProcessors (λ j. getD tasks j nobody is t)))
 
 -- ---- the table of all places
 pub places-all : (p : Processors)
     → markedBy (totalOf Running) (p .running) (markedBy (totalOf LinkedOnly) (p .linked) (replicate mostTasks (totalOf Ready))) ≡ table (placeBy p) mostTasks
 unfolding linkOf runOf
 places-all p =
-    table-same (λ t. if ltb (placeOf (p .running) t) processors then totalOf Running else getD (markedBy (totalOf LinkedOnly) (p .linked) ready) t 0) (placeBy p) mostTasks
+    table-same (λ t. if ltb (placeOf (p .running) t) mostProcessors then totalOf Running else getD (markedBy (totalOf LinkedOnly) (p .linked) ready) t 0) (placeBy p) mostTasks
     (λ t h. rw (
-      table-at (λ t. if ltb (placeOf (p .linked) t) processors then totalOf LinkedOnly else getD ready t 0) mostTasks t 0 h,
+      table-at (λ t. if ltb (placeOf (p .linked) t) mostProcessors then totalOf LinkedOnly else getD ready t 0) mostTasks t 0 h,
       getD-any ready t 0 (totalOf Ready) h,
       replicate-at mostTasks t (totalOf Ready),
     ))
@@ -96,7 +96,7 @@ places-all p =
 
 -- ---- the total by the place
 pub place-low : (p : Processors) (t : ℕ) → placeBy p t < totalCount
-place-low p t = go (ltb (runOf p t) processors) (ltb (linkOf p t) processors)
+place-low p t = go (ltb (runOf p t) mostProcessors) (ltb (linkOf p t) mostProcessors)
   where
     go : (a b : Bool) → (if a then totalOf Running else if b then totalOf LinkedOnly else totalOf Ready) < totalCount
     go true b = omega arith
@@ -112,7 +112,7 @@ total-by-low a place h = go (a is suspended) (a is spinning && place is totalOf 
     go false false = h
 
 pub total-by-place : (a t : ℕ) (p : Processors) → (a ≡ absent → ⊥) → totalBy a (placeBy p t) ≡ totalOf (situationOf a p t)
-total-by-place a t p h = rw (ne-eqb a absent h) (go (a is suspended) (a is spinning) (ltb (runOf p t) processors) (ltb (linkOf p t) processors))
+total-by-place a t p h = rw (ne-eqb a absent h) (go (a is suspended) (a is spinning) (ltb (runOf p t) mostProcessors) (ltb (linkOf p t) mostProcessors))
   where
     go : (b c d e : Bool)
         → (if b then totalOf Suspended else if (c && (if d then totalOf Running else if e then totalOf LinkedOnly else totalOf Ready) is totalOf Running) then totalOf Spinning

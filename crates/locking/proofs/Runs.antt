@@ -23,5 +23,5 @@ module _ (s : State) (part : List ℕ) where
   played-runs = played-run (eventCount part)
 
   -- what is written of event n is of the n-th reply
-  pub played-told : (n : ℕ) → n < eventCount part → replyTo s part n ≡ replyAt s (eventsIn part) n
-  played-told n l = rw (table-front (eventIn part) n (eventCount part) (omega arith), table-at (eventIn part) (eventCount part) n _ l, played-run n)
+  pub played-snapshots : (n : ℕ) → n < eventCount part → replyTo s part n ≡ replyAt s (eventsIn part) n
+  played-snapshots n l = rw (table-front (eventIn part) n (eventCount part) (omega arith), table-at (eventIn part) (eventCount part) n _ l, played-run n)

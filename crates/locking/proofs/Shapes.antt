@@ -15,7 +15,8 @@ use Rattle.input.specs.Words.{period}
 use Rattle.protocol.proofs.Task as task-type
 use Rattle.protocol.proofs.Group as group-type
 use Rattle.protocol.proofs.State as state-type
-use Rattle.protocol.specs.Words.{mostRequests, noTask, noGroup, totalCount}
+use Rattle.numbers.specs.Limits.{mostRequests}
+use Rattle.protocol.specs.Records.{noTask, noGroup, totalCount}
 use Rattle.protocol.specs.declared.Task.{Task}
 use Rattle.protocol.specs.declared.Group.{Group}
 use Rattle.protocol.specs.declared.State.{State}

@@ -14,45 +14,46 @@ use Rattle.search.specs.Words.{if_then_else_, _isn't_}
 use Rattle.search.specs.Table.{table}
 use Rattle.search.proofs.Tables.{table-length, table-at, table-of, table-same}
 use Rattle.processors.specs.declared.Processors.{Processors}
-use Rattle.input.specs.Limits.{mostTasks}
-use Rattle.protocol.specs.Words.{totalCount, absent, sum, noTask, task, stand}
+use Rattle.numbers.specs.Limits.{mostTasks}
+use Rattle.protocol.specs.Records.{totalCount, noTask, withTotals}
+use Rattle.protocol.specs.Words.{absent, sum, task, stand}
 use Rattle.protocol.specs.Situations.{situationOf, situation, totalOf}
 use Rattle.protocol.specs.Events.{counting, charged}
 use Rattle.protocol.specs.declared.Task.{Task}
 use Rattle.protocol.specs.declared.State.{State}
-use Rattle.locking.specs.Totals.{allTotals, rowOf, totalsAs, counted, totalsIn, placeBy, addedFor, chargedBy, countsAt, chargedAt, chargedTo, CanCharge, CanChargeTask}
+use Rattle.locking.specs.Totals.{allTotals, rowOf, counted, totalsIn, placeBy, addedFor, chargedBy, countsAt, chargedAt, chargedTo, CanCharge, CanChargeTask}
 use Rattle.locking.proofs.Charging.{total-low, at-sum}
 use Rattle.locking.proofs.Places.{total-by-place}
 
 -- ---- the records with the totals of the table
 -- each of them
 abbrev pub recordIn : List Task → List ℕ → ℕ → Task
-recordIn ts w t = totalsAs (rowOf w t) (getD ts t noTask)
+recordIn ts w t = withTotals (rowOf w t) (getD ts t noTask)
 
 pub counted-length : (ts : List Task) (w : List ℕ) → length (counted ts w) ≡ mostTasks
 unfolding counted
 counted-length ts w = table-length (recordIn ts w) mostTasks
 
-pub counted-at : (ts : List Task) (w : List ℕ) (t : ℕ) → t < mostTasks → getD (counted ts w) t noTask ≡ totalsAs (rowOf w t) (getD ts t noTask)
+pub counted-at : (ts : List Task) (w : List ℕ) (t : ℕ) → t < mostTasks → getD (counted ts w) t noTask ≡ withTotals (rowOf w t) (getD ts t noTask)
 unfolding counted
 counted-at ts w t h = table-at (recordIn ts w) mostTasks t noTask h
 
 -- a list with such records at its places
 counted-of : (ts : List Task) (w : List ℕ) (l : List Task) → length l ≡ mostTasks
-    → ((t : ℕ) → t < mostTasks → getD l t noTask ≡ totalsAs (rowOf w t) (getD ts t noTask)) → l ≡ counted ts w
+    → ((t : ℕ) → t < mostTasks → getD l t noTask ≡ withTotals (rowOf w t) (getD ts t noTask)) → l ≡ counted ts w
 unfolding counted
 counted-of ts w l h at = table-of (recordIn ts w) l mostTasks noTask h at
 
 -- a record set
 pub counted-set : (ts : List Task) (w : List ℕ) (t : ℕ) (x : Task) → t < mostTasks → length ts ≡ mostTasks
-    → counted (set ts t x) w ≡ set (counted ts w) t (totalsAs (rowOf w t) x)
+    → counted (set ts t x) w ≡ set (counted ts w) t (withTotals (rowOf w t) x)
 counted-set ts w t x h l =
     sym (counted-of (set ts t x) w (set (counted ts w) t y) (length-set (counted ts w) t y ∙ counted-length ts w) at)
   where
     y : Task
-    y = totalsAs (rowOf w t) x
+    y = withTotals (rowOf w t) x
 
-    at : (u : ℕ) → u < mostTasks → getD (set (counted ts w) t y) u noTask ≡ totalsAs (rowOf w u) (getD (set ts t x) u noTask)
+    at : (u : ℕ) → u < mostTasks → getD (set (counted ts w) t y) u noTask ≡ withTotals (rowOf w u) (getD (set ts t x) u noTask)
     at u g = elim (ℕ-discrete u t) [
       | yes e ↦ rw (e, getD-set-same (counted ts w) t y noTask (omega (arith, counted-length ts w)), getD-set-same ts t x noTask (omega arith))
       | no d ↦ rw (getD-set-other (counted ts w) t u y noTask d, getD-set-other ts t u x noTask d) (counted-at ts w u g)
@@ -74,7 +75,7 @@ totals-row : (ts : List Task) (t : ℕ) → t < mostTasks → length (getD ts t 
 totals-row ts t h l = table-of (λ i. getD (totalsIn ts) (totalCount * t + i) 0) (getD ts t noTask .totals) totalCount 0 l (λ i g. sym (totals-at ts t i h g))
 
 pub counted-start : (ts : List Task) → length ts ≡ mostTasks → ((t : ℕ) → length (getD ts t noTask .totals) ≡ totalCount) → counted ts (totalsIn ts) ≡ ts
-counted-start ts l rows = sym (counted-of ts (totalsIn ts) ts l (λ t h. ap (λ w. totalsAs w (getD ts t noTask)) (totals-row ts t h (rows t))))
+counted-start ts l rows = sym (counted-of ts (totalsIn ts) ts l (λ t h. ap (λ w. withTotals w (getD ts t noTask)) (totals-row ts t h (rows t))))
 
 -- ---- n added at place j
 added-length : (a j n : ℕ) (l : List ℕ) → length (addedFor a j n l) ≡ length l
@@ -158,10 +159,10 @@ row-set w t i x l h g =
 
 -- a record with its own row charged
 own-record : (w : List ℕ) (t a i n : ℕ) (x : Task) → length w ≡ allTotals → t < mostTasks → ((a ≡ absent → ⊥) → i < totalCount)
-    → (if a isn't absent then counting i n (totalsAs (rowOf w t) x) else totalsAs (rowOf w t) x) ≡ totalsAs (rowOf (addedFor a (totalCount * t + i) n w) t) x
+    → (if a isn't absent then counting i n (withTotals (rowOf w t) x) else withTotals (rowOf w t) x) ≡ withTotals (rowOf (addedFor a (totalCount * t + i) n w) t) x
 own-record w t a i n x l h low = elim (ℕ-discrete a absent) [
   | yes e ↦ rw (eq-eqb a absent e)
-  | no d ↦ rw (ne-eqb a absent d) (ap (λ r. totalsAs r x) (
+  | no d ↦ rw (ne-eqb a absent d) (ap (λ r. withTotals r x) (
       ap (λ y. set (rowOf w t) i (y + n)) (table-at (λ j. getD w (totalCount * t + j) 0) totalCount i 0 (low d)) ∙ row-set w t i (getD w (totalCount * t + i) 0 + n) l h (low d)))
 ]
 
@@ -181,23 +182,23 @@ kept-row p n stands w m t h =
 -- each record of a state, charged
 charged-task : (s : State) (ts : List Task) (w stands : List ℕ) (n m t : ℕ) → s .tasks ≡ counted ts w → length w ≡ allTotals → stands ≡ table (stand s) mostTasks
     → m ≤ mostTasks → ((t : ℕ) → m ≤ t → t < mostTasks → stand s t ≡ absent) → t < mostTasks
-    → (if stand s t isn't absent then counting (totalOf (situation s t)) n (task s t) else task s t) ≡ totalsAs (rowOf (chargedTo (s .processors) n stands w m) t) (getD ts t noTask)
+    → (if stand s t isn't absent then counting (totalOf (situation s t)) n (task s t) else task s t) ≡ withTotals (rowOf (chargedTo (s .processors) n stands w m) t) (getD ts t noTask)
 unfolding situation
 charged-task s ts w stands n m t e l f b none h =
     let x = getD ts t noTask in
     let p = s .processors in
-    let own : task s t ≡ totalsAs (rowOf w t) x = ap (λ (y : List Task). getD y t noTask) e ∙ counted-at ts w t h in
+    let own : task s t ≡ withTotals (rowOf w t) x = ap (λ (y : List Task). getD y t noTask) e ∙ counted-at ts w t h in
     let stood : getD stands t absent ≡ stand s t = ap (λ (y : List ℕ). getD y t absent) f ∙ table-at (stand s) mostTasks t absent h in
     elim (decLt t m) [
-      | yes g ↦ rw (own, ← stood) (own-record w t (getD stands t absent) (totalOf (situationOf (getD stands t absent) p t)) n x l h (counts-low p n stands t) ∙ ap (λ r. totalsAs r x) (charged-row p n stands w m t l b g))
-      | no g ↦ rw (eq-eqb (stand s t) absent (none t (omega arith) h)) (own ∙ ap (λ r. totalsAs r x) (kept-row p n stands w m t (omega arith)))
+      | yes g ↦ rw (own, ← stood) (own-record w t (getD stands t absent) (totalOf (situationOf (getD stands t absent) p t)) n x l h (counts-low p n stands t) ∙ ap (λ r. withTotals r x) (charged-row p n stands w m t l b g))
+      | no g ↦ rw (eq-eqb (stand s t) absent (none t (omega arith) h)) (own ∙ ap (λ r. withTotals r x) (kept-row p n stands w m t (omega arith)))
     ]
 
 pub counted-charged : (s : State) (ts : List Task) (w stands : List ℕ) (n m : ℕ) → s .tasks ≡ counted ts w → length w ≡ allTotals → stands ≡ table (stand s) mostTasks
     → m ≤ mostTasks → ((t : ℕ) → m ≤ t → t < mostTasks → stand s t ≡ absent) → charged n s .tasks ≡ counted ts (chargedTo (s .processors) n stands w m)
 unfolding charged counted
 counted-charged s ts w stands n m e l f b none =
-    table-same (λ t. if stand s t isn't absent then counting (totalOf (situation s t)) n (task s t) else task s t) (λ t. totalsAs (rowOf (chargedTo (s .processors) n stands w m) t) (getD ts t noTask)) mostTasks
+    table-same (λ t. if stand s t isn't absent then counting (totalOf (situation s t)) n (task s t) else task s t) (λ t. withTotals (rowOf (chargedTo (s .processors) n stands w m) t) (getD ts t noTask)) mostTasks
     (λ t h. charged-task s ts w stands n m t e l f b none h)
 
 -- no number of the table is past a bound of each task's sum

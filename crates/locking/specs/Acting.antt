@@ -2,14 +2,14 @@
 use Prim.Native.Nat.{ℕ, _<_, _≤_}
 use mathlib.Core.Path.{_≡_}
 use mathlib.Core.Bool.{true}
-use Rattle.input.specs.Limits.{mostTasks, mostResources}
+use Rattle.numbers.specs.Limits.{mostTasks, mostResources, mostRequests}
 use Rattle.setups.specs.Naming.{groupOf}
 use Rattle.input.specs.Kinds.{request, completion}
 use Rattle.input.specs.declared.Event.{Event}
-use Rattle.protocol.specs.Words.{mostRequests, depth, len}
+use Rattle.protocol.specs.Words.{depth, len}
 use Rattle.protocol.specs.Locks.{nextAt}
 use Rattle.protocol.specs.declared.State.{State}
-use Rattle.views.specs.Bounds.{isBounded}
+use Rattle.priorities.specs.Bounds.{isBounded}
 
 -- the next of g is a task, with room for one request more
 pub record CanPass (s : State) (g : ℕ) : Type 0 where

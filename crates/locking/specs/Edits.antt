@@ -1,6 +1,6 @@
 -- Document 01, 'Events', over the records of an event's task and group: the records after it, the scheduler's move that
 -- follows, and who is then handed the group.
-use Prim.Native.Nat.{ℕ, _+_}
+use Prim.Native.Nat.{ℕ}
 use mathlib.Core.Bool.{Bool, _||_}
 use mathlib.Core.List.{List}
 use lib.ListN.{getD, set}
@@ -11,14 +11,14 @@ use Rattle.processors.specs.declared.Jobs.{Jobs}
 use Rattle.processors.specs.declared.Processors.{Processors}
 use Rattle.scheduler.specs.Arriving.{arriving as linking}
 use Rattle.scheduler.specs.Leaving.{becomingPreemptable, leaving, givingWay}
-use Rattle.input.specs.Limits.{short}
-use Rattle.input.specs.Words.{period}
-use Rattle.input.specs.Kinds.{arrival, finish, request as asking, completion}
+use Rattle.input.specs.Kinds.{short, arrival, finish, request as asking, completion}
+use Rattle.input.specs.Words.{dueAt}
 use Rattle.input.specs.declared.Event.{Event}
-use Rattle.protocol.specs.Words.{nobody, askedOf, task, group}
+use Rattle.numbers.specs.Limits.{nobody, nothing}
+use Rattle.protocol.specs.Words.{askedOf, task, group}
 use Rattle.protocol.specs.Ranks.{jobs}
-use Rattle.protocol.specs.Locks.{standingAs, opening, closing, arriving, departing, lockOf}
-use Rattle.protocol.specs.Events.{withProcessors}
+use Rattle.protocol.specs.Records.{withStanding, withTasks, withGroups, withProcessors}
+use Rattle.protocol.specs.Locks.{opening, closing, arriving, departing, lockOf}
 use Rattle.protocol.specs.declared.Standing.the-variants.{Active, Waiting}
 use Rattle.protocol.specs.declared.Task.{Task}
 use Rattle.protocol.specs.declared.Group.{Group}
@@ -30,8 +30,8 @@ use Rattle.locking.specs.declared.acting.Edit.{Edit}
 abbrev pub stay : ℕ
 stay = 0
 
-abbrev pub soften : ℕ
-soften = 1
+abbrev pub becomePreemptable : ℕ
+becomePreemptable = 1
 
 abbrev pub arrive : ℕ
 arrive = 2
@@ -45,7 +45,7 @@ giveWay = 4
 -- ---- the event on the records: x of its task, y of its group
 -- x has a request of r's kind open
 abbrev pub openIn : List ℕ → Task → ℕ → Bool
-openIn kinds x r = anyBelow (x .depth) (λ i. getD kinds (getD (x .requests) i nobody) 0 is getD kinds r 0)
+openIn kinds x r = anyBelow (x .depth) (λ i. getD kinds (getD (x .requests) i nothing) 0 is getD kinds r 0)
 
 -- these are the records after, this move follows, and nobody is handed the group
 abbrev pub keeping : Task → Group → ℕ → Edit
@@ -59,7 +59,7 @@ module _ (kinds : List ℕ) (x : Task) (y : Group) where
       if openIn kinds x r || y .holder is nobody
       then keeping (opening r x) (record { holder = t; queue = y .queue }) stay
       else record {
-        task = standingAs (Waiting (lockOf (getD kinds r 0) r)) x;
+        task = withStanding (Waiting (lockOf (getD kinds r 0) r)) x;
         group = record { holder = y .holder; queue = appended (y .queue) t };
         turn = if getD kinds r 0 is short then stay else leave;
         next = nobody;
@@ -73,15 +73,15 @@ module _ (kinds : List ℕ) (x : Task) (y : Group) where
       else record {
         task = closing x;
         group = record { holder = nobody; queue = y .queue };
-        turn = if getD kinds r 0 is short then soften else giveWay;
+        turn = if getD kinds r 0 is short then becomePreemptable else giveWay;
         next = if y .queue .len is 0 then nobody else waiter (y .queue) 0;
       }
 
--- an event at the clock, on the record of its task, whose period is `span`: who arrives gets its deadline, who finishes
--- has none, and time alone changes nothing
+-- an event at the clock, on the record of its task: who arrives gets the deadline `due`, who finishes has none, and time
+-- alone changes nothing
 unfoldable pub editing : List ℕ → ℕ → ℕ → Task → Group → Event → Edit
-editing kinds span clock x y e =
-    if e .kind is arrival then keeping (arriving clock (clock + span) x) y arrive
+editing kinds due clock x y e =
+    if e .kind is arrival then keeping (arriving clock due x) y arrive
     else if e .kind is finish then keeping (departing x) y leave
     else if e .kind is asking then requesting kinds x y (e .task) (e .resource)
     else if e .kind is completion then completing kinds x y (e .resource)
@@ -91,7 +91,7 @@ editing kinds span clock x y e =
 -- group is long, and it resumes
 unfoldable pub handing : Task → Group → ℕ → ℕ → Edit
 handing x y turn next = record {
-  task = opening (askedOf (x .standing)) (standingAs Active x);
+  task = opening (askedOf (x .standing)) (withStanding Active x);
   group = record { holder = next; queue = withoutFirst (y .queue) };
   turn = if turn is giveWay then arrive else stay;
   next = next;
@@ -100,13 +100,7 @@ handing x y turn next = record {
 -- ---- the event on the state
 -- with x as the record of task t and y as that of group g
 abbrev pub put : ℕ → ℕ → Task → Group → State → State
-put t g x y s = record {
-  setup = s .setup;
-  clock = s .clock;
-  tasks = set (s .tasks) t x;
-  groups = set (s .groups) g y;
-  processors = s .processors;
-}
+put t g x y s = withTasks (set (s .tasks) t x) (withGroups (set (s .groups) g y) s)
 
 -- with those of an edit
 abbrev pub stored : ℕ → ℕ → Edit → State → State
@@ -118,7 +112,7 @@ movedWith turn p j t =
     if turn is arrive then linking p j t nobody
     else if turn is leave then leaving p j t
     else if turn is giveWay then givingWay p j t
-    else if turn is soften then becomingPreemptable p t
+    else if turn is becomePreemptable then becomingPreemptable p t
     else p
 
 -- the same, told the jobs of s
@@ -131,7 +125,8 @@ handed g turn u s = let n = handing (task s u) (group s g) turn u in movedBy (n 
 
 -- what an event does to the records of its task and of group g of a state
 abbrev pub editOf : Event → ℕ → State → Edit
-editOf e g s = editing (s .setup .kinds) (period (s .setup) (e .task)) (s .clock) (task s (e .task)) (group s g) e
+editOf e g s =
+    editing (s .setup .kinds) (dueAt (s .setup) (e .task) (s .clock)) (s .clock) (task s (e .task)) (group s g) e
 
 -- an accepted event, on the state charged with its ticks; g is the place of its group, or any where it has none
 unfoldable pub acted : Event → ℕ → State → State

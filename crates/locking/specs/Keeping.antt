@@ -6,12 +6,13 @@ use mathlib.Core.List.{List}
 use lib.ListN.{length, getD, set}
 use Rattle.search.specs.Table.{table}
 use Rattle.processors.specs.declared.Processors.{Processors}
-use Rattle.input.specs.Limits.{mostTasks}
-use Rattle.protocol.specs.Words.{noTask, standingNo}
+use Rattle.numbers.specs.Limits.{mostTasks}
+use Rattle.protocol.specs.Records.{noTask}
+use Rattle.protocol.specs.Words.{standingNo}
 use Rattle.protocol.specs.declared.Task.{Task}
 use Rattle.protocol.specs.declared.Group.{Group}
 use Rattle.protocol.specs.declared.State.{State}
-use Rattle.views.specs.Bounds.{rankBy, modeIn}
+use Rattle.priorities.specs.Bounds.{rankBy, modeIn}
 use Rattle.locking.specs.declared.moving.Kept.{Kept}
 use Rattle.locking.specs.Totals.{allTotals, counted}
 

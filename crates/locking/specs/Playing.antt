@@ -7,11 +7,11 @@ use Rattle.protocol.specs.Events.{step}
 use Rattle.protocol.specs.declared.State.{State}
 use Rattle.protocol.specs.declared.Reply.{Reply}
 use Rattle.locking.specs.declared.Played.{Played}
-use Rattle.states.specs.Writing.{lineSize, lineOf, written}
+use Rattle.states.specs.Writing.{snapshotSize, snapshotOf, written}
 
 -- as many events as the part has whole and the buffer has room for
 unfoldable pub playable : List ℕ → List ℕ → ℕ
-playable part out = min (eventCount part) (length out / lineSize)
+playable part out = min (eventCount part) (length out / snapshotSize)
 
 -- the answer to event n of a part, from the state before it
 abbrev replyFrom : List ℕ → ℕ → State → Reply
@@ -28,14 +28,14 @@ module _ (s : State) (part : List ℕ) where
   replyTo n = replyFrom part n (playedTo n)
 
   -- what is written of it
-  abbrev pub told : ℕ → List ℕ
-  told n = lineOf (replyTo n .answer) (replyTo n .state .processors)
+  abbrev pub snapshotAt : ℕ → List ℕ
+  snapshotAt n = snapshotOf (replyTo n .answer) (replyTo n .state .processors)
 
 module _ (s : State) (part out : List ℕ) where
   -- the buffer after the first n events
   unfoldable pub writtenTo : ℕ → List ℕ
   writtenTo zero = out
-  writtenTo (suc n) = written (writtenTo n) (lineSize * n) (told s part n)
+  writtenTo (suc n) = written (writtenTo n) (snapshotSize * n) (snapshotAt s part n)
 
   -- the state and the buffer after all, and how many they were
   unfoldable pub played : Played × List ℕ

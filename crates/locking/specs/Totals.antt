@@ -8,11 +8,11 @@ use lib.Dec.{ltb}
 use lib.ListN.{length, getD, set}
 use Rattle.search.specs.Words.{if_then_else_, _is_, _isn't_}
 use Rattle.search.specs.Table.{table}
-use Rattle.processors.specs.Limits.{processors}
+use Rattle.numbers.specs.Limits.{mostProcessors, mostTasks}
 use Rattle.processors.specs.Words.{placeOf, linkOf, runOf}
 use Rattle.processors.specs.declared.Processors.{Processors}
-use Rattle.input.specs.Limits.{mostTasks}
-use Rattle.protocol.specs.Words.{totalCount, lastClock, absent, spinning, suspended, noTask}
+use Rattle.protocol.specs.Records.{totalCount, noTask, withTotals}
+use Rattle.protocol.specs.Words.{lastClock, absent, spinning, suspended}
 use Rattle.protocol.specs.Situations.{situationOf, totalOf}
 use Rattle.protocol.specs.declared.Situation.the-variants.{Running, Spinning, LinkedOnly, Ready, Suspended}
 use Rattle.protocol.specs.declared.Task.{Task}
@@ -25,21 +25,9 @@ allTotals = mostTasks * totalCount
 abbrev pub rowOf : List ℕ → ℕ → List ℕ
 rowOf totals t = table (λ i. getD totals (totalCount * t + i) 0) totalCount
 
--- a task's record with the totals w
-abbrev pub totalsAs : List ℕ → Task → Task
-totalsAs w x = record {
-  standing = x .standing;
-  deadline = x .deadline;
-  arrived = x .arrived;
-  last = x .last;
-  requests = x .requests;
-  depth = x .depth;
-  totals = w;
-}
-
 -- the records with the totals of the table
 unfoldable pub counted : List Task → List ℕ → List Task
-counted tasks totals = table (λ t. totalsAs (rowOf totals t) (getD tasks t noTask)) mostTasks
+counted tasks totals = table (λ t. withTotals (rowOf totals t) (getD tasks t noTask)) mostTasks
 
 -- the table of the totals in the records
 unfoldable pub totalsIn : List Task → List ℕ
@@ -48,13 +36,13 @@ totalsIn tasks = table (λ k. getD (getD tasks (k / totalCount) noTask .totals) 
 -- a place for each task in a list of the processors' tasks, and as before for the others
 abbrev pub markedBy : ℕ → List ℕ → List ℕ → List ℕ
 markedBy place tasks places =
-    table (λ t. if ltb (placeOf tasks t) processors then place else getD places t 0) mostTasks
+    table (λ t. if ltb (placeOf tasks t) mostProcessors then place else getD places t 0) mostTasks
 
 -- the total of task t by the processors alone: of a job that neither spins nor is suspended
 abbrev pub placeBy : Processors → ℕ → ℕ
 placeBy p t =
-    if ltb (runOf p t) processors then totalOf Running
-    else if ltb (linkOf p t) processors then totalOf LinkedOnly
+    if ltb (runOf p t) mostProcessors then totalOf Running
+    else if ltb (linkOf p t) mostProcessors then totalOf LinkedOnly
     else totalOf Ready
 
 -- the total of a pending task with a standing, as a number, and a place by the processors

@@ -5,14 +5,15 @@ use crate::edits::departed;
 use crate::edits::lock_of;
 use crate::edits::opened;
 use input::Event;
-use input::SetUp;
+use input::Setup;
+use numbers::Limit;
 use protocol::Group;
 use protocol::Standing;
 use protocol::Task;
 ghost use mathlib.Core.Path.{_≡_};
 ghost use Prim.Native.Nat.{_≤_, _<_};
 ghost use Rattle.input.specs.Kinds.{request as asking, completion};
-ghost use Rattle.protocol.specs.Words.{mostRequests};
+ghost use Rattle.numbers.specs.Limits.{mostRequests};
 ghost use Rattle.locking.specs.Edits.{requesting, completing, editing, handing};
 
 // The records of an event's task and group after it, the scheduler's move that follows, and who is then handed the
@@ -29,7 +30,7 @@ impl Edit {
     // The scheduler's moves: none, becoming preemptable, arriving or resuming, finishing or suspending, giving way.
     pub const STAY: u8 = 0;
 
-    pub const SOFTEN: u8 = 1;
+    pub const BECOME_PREEMPTABLE: u8 = 1;
 
     pub const ARRIVE: u8 = 2;
 
@@ -39,22 +40,22 @@ impl Edit {
 }
 
 // Task `t` requests `r`: it holds the group at once, or spins or suspends at the end of its queue.
-fn request(kinds: [u8; SetUp::RESOURCES], task: Task, group: Group, t: u8, r: u8) -> Edit
+fn request(kinds: [u8; Setup::RESOURCES], task: Task, group: Group, t: u8, r: u8) -> Edit
     requires { ⌜ task .depth < mostRequests ⌝ }
     ensures { λ x. ⌜ x ≡ requesting kinds task group t r ⌝ }
 {
     let requests = task.requests;
     let queue = group.queue;
-    let kind = tables::kind_at(kinds, r);
-    if tables::has_kind(kinds, requests, task.depth, kind) | (group.holder == Task::NOTHING) {
+    let kind = states::kind_at(kinds, r);
+    if states::has_kind(kinds, requests, task.depth, kind) | (group.holder == Limit::NOBODY) {
         Edit {
             task: opened(task, r),
             group: Group { holder: t, queue },
             turn: Edit::STAY,
-            next: Task::NOTHING,
+            next: Limit::NOBODY,
         }
     } else {
-        let waits = tables::with_standing(task, Standing::Waiting(lock_of(kind, r)));
+        let waits = states::with_standing(task, Standing::Waiting(lock_of(kind, r)));
         let line = queue.append(t);
         Edit {
             task: waits,
@@ -62,45 +63,45 @@ fn request(kinds: [u8; SetUp::RESOURCES], task: Task, group: Group, t: u8, r: u8
                 holder: group.holder,
                 queue: line,
             },
-            turn: search::row(Edit::STAY, kind == SetUp::SHORT, Edit::LEAVE),
-            next: Task::NOTHING,
+            turn: numbers::row(Edit::STAY, kind == Setup::SHORT, Edit::LEAVE),
+            next: Limit::NOBODY,
         }
     }
 }
 
 // The newest request, that of `r`, is closed; an outermost one frees the group for the first of its queue.
-fn complete(kinds: [u8; SetUp::RESOURCES], task: Task, group: Group, r: u8) -> Edit
+fn complete(kinds: [u8; Setup::RESOURCES], task: Task, group: Group, r: u8) -> Edit
     requires { ⌜ (0 < task .depth) × (task .depth ≤ mostRequests) ⌝ }
     ensures { λ x. ⌜ x ≡ completing kinds task group r ⌝ }
 {
     let done = closed(task);
     let requests = done.requests;
     let queue = group.queue;
-    let kind = tables::kind_at(kinds, r);
-    if tables::has_kind(kinds, requests, done.depth, kind) {
+    let kind = states::kind_at(kinds, r);
+    if states::has_kind(kinds, requests, done.depth, kind) {
         Edit {
             task: done,
             group,
             turn: Edit::STAY,
-            next: Task::NOTHING,
+            next: Limit::NOBODY,
         }
     } else {
         Edit {
             task: done,
             group: Group {
-                holder: Task::NOTHING,
+                holder: Limit::NOBODY,
                 queue,
             },
-            turn: search::row(Edit::SOFTEN, kind == SetUp::SHORT, Edit::GIVE_WAY),
-            next: search::row(Task::NOTHING, queue.len == 0, queue.first()),
+            turn: numbers::row(Edit::BECOME_PREEMPTABLE, kind == Setup::SHORT, Edit::GIVE_WAY),
+            next: numbers::row(Limit::NOBODY, queue.len == 0, queue.first()),
         }
     }
 }
 
-// Event `e` at `clock`, on the record of its task, with the task's period, and that of its group.
+// Event `e` at `clock`, on the records of its task and of its group. A job that arrives has the deadline `due`.
 pub fn edited(
-    kinds: [u8; SetUp::RESOURCES],
-    period: u16,
+    kinds: [u8; Setup::RESOURCES],
+    due: u64,
     clock: u32,
     task: Task,
     group: Group,
@@ -108,22 +109,21 @@ pub fn edited(
 ) -> Edit
     requires { ⌜ (e .kind ≡ asking → task .depth < mostRequests)
         × (e .kind ≡ completion → (0 < task .depth) × (task .depth ≤ mostRequests)) ⌝ }
-    ensures { λ x. ⌜ x ≡ editing kinds period clock task group e ⌝ }
+    ensures { λ x. ⌜ x ≡ editing kinds due clock task group e ⌝ }
 {
     if e.kind == Event::ARRIVAL {
-        let due = (clock as u64) + (period as u64);
         Edit {
             task: arrived(task, clock, due),
             group,
             turn: Edit::ARRIVE,
-            next: Task::NOTHING,
+            next: Limit::NOBODY,
         }
     } else if e.kind == Event::FINISH {
         Edit {
             task: departed(task),
             group,
             turn: Edit::LEAVE,
-            next: Task::NOTHING,
+            next: Limit::NOBODY,
         }
     } else if e.kind == Event::REQUEST {
         request(kinds, task, group, e.task, e.resource)
@@ -134,7 +134,7 @@ pub fn edited(
             task,
             group,
             turn: Edit::STAY,
-            next: Task::NOTHING,
+            next: Limit::NOBODY,
         }
     }
 }
@@ -150,14 +150,14 @@ pub fn hand_over(task: Task, group: Group, turn: u8, next: u8) -> Edit
     let rest = queue.without_first();
     Edit {
         task: opened(
-            tables::with_standing(task, Standing::Active),
+            states::with_standing(task, Standing::Active),
             states::asked_of(standing),
         ),
         group: Group {
             holder: next,
             queue: rest,
         },
-        turn: search::row(Edit::ARRIVE, turn == Edit::GIVE_WAY, Edit::STAY),
+        turn: numbers::row(Edit::ARRIVE, turn == Edit::GIVE_WAY, Edit::STAY),
         next,
     }
 }

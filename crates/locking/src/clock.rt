@@ -3,11 +3,14 @@ ghost use mathlib.Core.Path.{_≡_};
 ghost use Prim.Native.Nat.{_+_};
 ghost use Rattle.protocol.specs.Refusals.{ticksTo};
 
+// The console's tick runs from 65,535 to 0.
+const TICKS: u32 = 65536;
+
 // The new tick minus the last accepted one, modulo 65,536.
 pub fn step_to(clock: u32, tick: u16) -> u16
     ensures { λ r. ⌜ r ≡ ticksTo clock tick ⌝ }
 {
-    let last = (clock % 65536) as u16;
+    let last = (clock % TICKS) as u16;
     std::num::wrapping_sub_u16(tick, last)
 }
 

@@ -1,18 +1,17 @@
 // The tick totals of all tasks in one table of numbers, and the ticks of an event charged there.
-use input::SetUp;
+use input::Setup;
 use processors::Processors;
 use protocol::Task;
 ghost use mathlib.Core.Path.{_≡_};
 ghost use Prim.Native.Nat.{_≤_, _<_};
 ghost use lib.ListN.{length};
 ghost use Rattle.search.specs.Table.{table};
-ghost use Rattle.input.specs.Limits.{mostTasks};
-ghost use Rattle.protocol.specs.Words.{totalCount};
-ghost use Rattle.locking.specs.Totals.{allTotals, rowOf, totalsAs, counted, totalsIn, markedBy, placeBy, totalBy};
-ghost use Rattle.locking.specs.Totals.{chargedBy, chargedTo, CanCharge, CanChargeTask};
+ghost use Rattle.numbers.specs.Limits.{mostTasks};
+ghost use Rattle.protocol.specs.Records.{totalCount, withTotals};
+ghost use Rattle.locking.specs.Totals.{allTotals, rowOf, counted, totalsIn, markedBy, placeBy, totalBy, chargedBy, chargedTo, CanCharge, CanChargeTask};
 
 // How many totals all tasks have.
-pub const ALL_TOTALS: usize = SetUp::TASKS * Task::TOTALS;
+pub const ALL_TOTALS: usize = Setup::TASKS * Task::TOTALS;
 
 // The numbers of the totals.
 const RUNNING: u8 = 0;
@@ -26,7 +25,7 @@ const READY: u8 = 3;
 const SUSPENDED: u8 = 4;
 
 // The table of the totals in the records.
-pub fn totals_of(tasks: [Task; SetUp::TASKS]) -> [u32; ALL_TOTALS]
+pub fn totals_of(tasks: [Task; Setup::TASKS]) -> [u32; ALL_TOTALS]
     ensures { λ r. ⌜ r ≡ totalsIn tasks ⌝ }
 {
     let mut totals = [0u32; ALL_TOTALS];
@@ -54,7 +53,7 @@ fn row_of(totals: &[u32], t: usize) -> [u32; Task::TOTALS]
 
 // The task with other totals.
 fn with_row(task: Task, row: [u32; Task::TOTALS]) -> Task
-    ensures { λ r. ⌜ r ≡ totalsAs row task ⌝ }
+    ensures { λ r. ⌜ r ≡ withTotals row task ⌝ }
 {
     let mut next = task;
     next.totals = row;
@@ -62,11 +61,11 @@ fn with_row(task: Task, row: [u32; Task::TOTALS]) -> Task
 }
 
 // The records with the totals of the table.
-pub fn with_totals(tasks: [Task; SetUp::TASKS], totals: [u32; ALL_TOTALS]) -> [Task; SetUp::TASKS]
+pub fn with_totals(tasks: [Task; Setup::TASKS], totals: [u32; ALL_TOTALS]) -> [Task; Setup::TASKS]
     ensures { λ r. ⌜ r ≡ counted tasks totals ⌝ }
 {
     let mut next = tasks;
-    for t in 0..SetUp::TASKS {
+    for t in 0..Setup::TASKS {
         let task = next[t];
         next[t] = with_row(task, row_of(&totals, t));
     }
@@ -80,19 +79,19 @@ fn mark(places: &mut [u8], tasks: [u8; Processors::LIMIT], place: u8)
 {
     for k in 0..Processors::LIMIT {
         let t = tasks[k] as usize;
-        if t < SetUp::TASKS {
+        if t < Setup::TASKS {
             places[t] = place;
         }
     }
 }
 
 // The total of each task by the processors alone: running, linked only or ready.
-fn places_of(p: Processors) -> [u8; SetUp::TASKS]
+fn places_of(p: Processors) -> [u8; Setup::TASKS]
     ensures { λ r. ⌜ r ≡ table (placeBy p) mostTasks ⌝ }
 {
     let linked = p.linked;
     let running = p.running;
-    let mut places = [READY; SetUp::TASKS];
+    let mut places = [READY; Setup::TASKS];
     mark(&mut places, linked, LINKED_ONLY);
     mark(&mut places, running, RUNNING);
     places
@@ -125,7 +124,7 @@ fn charge_task(totals: &mut [u32], t: usize, stand: u8, place: u8, ticks: u16)
 // Charges `ticks` to each pending task among the first `tasks`. Their standings have the numbers `stands`.
 pub fn charge(
     totals: &mut [u32],
-    stands: [u8; SetUp::TASKS],
+    stands: [u8; Setup::TASKS],
     p: Processors,
     tasks: usize,
     ticks: u16,

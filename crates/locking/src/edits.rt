@@ -1,11 +1,12 @@
 // A task's record with one change: a request more or less, a job that comes or goes.
-use input::SetUp;
+use input::Setup;
+use numbers::Limit;
 use protocol::Lock;
 use protocol::Standing;
 use protocol::Task;
 ghost use mathlib.Core.Path.{_≡_};
 ghost use Prim.Native.Nat.{_≤_, _<_};
-ghost use Rattle.protocol.specs.Words.{mostRequests};
+ghost use Rattle.numbers.specs.Limits.{mostRequests};
 ghost use Rattle.protocol.specs.Locks.{opening, closing, arriving, departing, lockOf};
 
 // One request more is open.
@@ -27,7 +28,7 @@ pub fn closed(task: Task) -> Task
 {
     let d = task.depth;
     let mut next = task;
-    next.requests[d - 1] = Task::NOTHING;
+    next.requests[d - 1] = Limit::NOTHING;
     next.depth = d - 1;
     next
 }
@@ -67,7 +68,7 @@ pub fn departed(task: Task) -> Task
 pub fn lock_of(kind: u8, r: u8) -> Lock
     ensures { λ l. ⌜ l ≡ lockOf kind r ⌝ }
 {
-    if kind == SetUp::SHORT {
+    if kind == Setup::SHORT {
         Lock::Short(r)
     } else {
         Lock::Long(r)

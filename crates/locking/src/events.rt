@@ -9,16 +9,16 @@ ghost use Rattle.protocol.specs.Refusals.{judge as judgeRule};
 ghost use Rattle.protocol.specs.Events.{step as stepRule};
 
 // The first of 9 to 25 that applies, or 0.
-pub fn judge(state: State, e: Event) -> u8
+pub fn judge_event(state: State, e: Event) -> u8
     ensures { λ r. ⌜ r ≡ judgeRule state e ⌝ }
 {
     let tested = soundness::test(state);
-    let named = tested.named;
+    let naming = tested.naming;
     let setup = state.setup;
     let tasks = state.tasks;
     let p = state.processors;
-    let task = tables::task_at(tasks, e.task);
-    judge_parts(setup, state.clock, task, p, named, tested.passes, e)
+    let task = states::task_at(tasks, e.task);
+    judge_parts(setup, state.clock, task, p, naming, tested.passes, e)
 }
 
 // The answer to an event, and the state after it: the same one, where the event is refused. It is played as a part of
@@ -27,11 +27,11 @@ pub fn step(state: State, e: Event) -> Reply
     ensures { λ r. ⌜ r ≡ stepRule state e ⌝ }
 {
     let part = input::event_bytes(e);
-    let mut line = [0u8; Reply::LINE];
-    let played = play(state, &part, &mut line);
+    let mut snapshot = [0u8; Reply::SNAPSHOT];
+    let played = play(state, &part, &mut snapshot);
     let next = played.state;
     Reply {
-        answer: line[0],
+        answer: snapshot[0],
         state: next,
     }
 }

@@ -8,7 +8,7 @@ mod judging;
 mod moving;
 mod playing;
 
-pub use events::judge;
+pub use events::judge_event;
 pub use events::step;
 pub use playing::play;
 use protocol::State;

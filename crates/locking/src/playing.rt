@@ -10,51 +10,50 @@ use crate::judging::judge_parts;
 use crate::moving::keep;
 use crate::moving::kept_of;
 use crate::moving::moved;
-use input::SetUp;
+use input::Setup;
+use numbers::Limit;
 use protocol::Reply;
 use protocol::State;
-use protocol::Task;
 use soundness::Tested;
 ghost use mathlib.Core.Path.{_≡_};
 ghost use Prim.Native.Nat.{_+_, _≤_, _<_};
 ghost use lib.ListN.{length, getD};
-ghost use Rattle.input.specs.Limits.{mostResources};
+ghost use Rattle.numbers.specs.Limits.{mostResources, nothing};
 ghost use Rattle.setups.specs.Naming.{names};
-ghost use Rattle.protocol.specs.Words.{nobody};
 ghost use Rattle.protocol.specs.Sound.{sound};
-ghost use Rattle.states.specs.Writing.{lineSize, written};
+ghost use Rattle.states.specs.Writing.{snapshotSize, written};
 ghost use Rattle.locking.specs.Playing.{playable, playedTo, writtenTo, played};
 
-// Writes a line into `out` from `at` on, and gives the place behind it.
-fn put_line(out: &mut [u8], at: usize, line: [u8; Reply::LINE]) -> usize
-    requires { ⌜ at + lineSize ≤ length (now out) ⌝ }
-    ensures { λ r. ⌜ (r ≡ at + lineSize) × (now (out .exit) ≡ written (now (out .entry)) at line) ⌝ }
+// Writes a snapshot into `out` from `at` on; returns the next write position.
+fn put_snapshot(out: &mut [u8], at: usize, snapshot: [u8; Reply::SNAPSHOT]) -> usize
+    requires { ⌜ at + snapshotSize ≤ length (now out) ⌝ }
+    ensures { λ r. ⌜ (r ≡ at + snapshotSize) × (now (out .exit) ≡ written (now (out .entry)) at snapshot) ⌝ }
 {
-    for i in 0..Reply::LINE {
-        out[at + i] = line[i];
+    for i in 0..Reply::SNAPSHOT {
+        out[at + i] = snapshot[i];
     }
-    at + Reply::LINE
+    at + Reply::SNAPSHOT
 }
 
 // The place of the group of resource `r`; the first place where it has none.
-fn place_in(named: [u8; SetUp::RESOURCES], r: u8) -> usize
-    ensures { λ g. ⌜ (g < mostResources) × (getD named r nobody < mostResources → g ≡ getD named r nobody) ⌝ }
+fn place_in(naming: [u8; Setup::RESOURCES], r: u8) -> usize
+    ensures { λ g. ⌜ (g < mostResources) × (getD naming r nothing < mostResources → g ≡ getD naming r nothing) ⌝ }
 {
-    let g = tables::number_at(named, r) as usize;
-    if g < SetUp::RESOURCES { g } else { 0 }
+    let g = setups::named_at(naming, r) as usize;
+    if g < Setup::RESOURCES { g } else { 0 }
 }
 
 // The first `count` events of `part`, from a state that was tested. It is taken apart once and put together at the end, so
 // that no event copies all of it; meanwhile the totals stand in one table, and what moves look up is kept along.
 fn play_events(state: State, tested: Tested, part: &[u8], count: usize, out: &mut [u8]) -> State
-    requires { ⌜ (tested ≡ record { passes = sound state; named = names (state .setup) })
+    requires { ⌜ (tested ≡ record { passes = sound state; naming = names (state .setup) })
         × (count ≡ playable (now part) (now out)) ⌝ }
     ensures { λ r. ⌜ (r ≡ playedTo state (now (part .entry)) count)
         × (now (out .exit) ≡ writtenTo state (now (part .entry)) (now (out .entry)) count) ⌝ }
 {
     let setup = state.setup;
     let kinds = setup.kinds;
-    let named = tested.named;
+    let naming = tested.naming;
     let mut clock = state.clock;
     let mut tasks = state.tasks;
     let mut groups = state.groups;
@@ -65,20 +64,21 @@ fn play_events(state: State, tested: Tested, part: &[u8], count: usize, out: &mu
     for i in 0..count {
         let e = input::event_at(part, i);
         let t = e.task as usize;
-        let task = if t < SetUp::TASKS {
+        let task = if t < Setup::TASKS {
             tasks[t]
         } else {
-            tables::no_task()
+            states::no_task()
         };
-        let answer = judge_parts(setup, clock, task, p, named, tested.passes, e);
+        let answer = judge_parts(setup, clock, task, p, naming, tested.passes, e);
         if answer == 0 {
             let ticks = step_to(clock, e.tick);
             let stands = kept.stands;
             charge(&mut totals, stands, p, setup.tasks, ticks);
             clock = clock + (ticks as u32);
-            let g = place_in(named, e.resource);
+            let g = place_in(naming, e.resource);
             let held = groups[g];
-            let edit = edited(kinds, setup.periods[t], clock, task, held, e);
+            let due = states::due_at(setup, e.task, clock);
+            let edit = edited(kinds, due, clock, task, held, e);
             let mine = edit.task;
             let group = edit.group;
             tasks[t] = mine;
@@ -86,7 +86,7 @@ fn play_events(state: State, tested: Tested, part: &[u8], count: usize, out: &mu
             let followed = keep(kept, kinds, mine, e.task);
             kept = followed;
             p = moved(edit.turn, p, kept, setup, groups, e.task);
-            if edit.next != Task::NOTHING {
+            if edit.next != Limit::NOBODY {
                 let u = edit.next as usize;
                 let waits = tasks[u];
                 let given = hand_over(waits, group, edit.turn, edit.next);
@@ -99,7 +99,7 @@ fn play_events(state: State, tested: Tested, part: &[u8], count: usize, out: &mu
                 p = moved(given.turn, p, kept, setup, groups, edit.next);
             }
         }
-        at = put_line(out, at, states::line_of(answer, p));
+        at = put_snapshot(out, at, states::snapshot_of(answer, p));
     }
     State {
         setup,
@@ -116,7 +116,7 @@ pub fn play(state: State, part: &[u8], out: &mut [u8]) -> Played
 {
     let tested = soundness::test(state);
     let events = input::event_count(part);
-    let room = out.len() / Reply::LINE;
+    let room = out.len() / Reply::SNAPSHOT;
     let count = if events < room { events } else { room };
     let next = play_events(state, tested, part, count, out);
     Played { state: next, count }

@@ -1,4 +1,5 @@
 // The scheduler's part of the sound state, as a test of any content.
+use numbers::Limit;
 use processors::Jobs;
 use processors::Processors;
 use processors::is_higher;
@@ -11,31 +12,31 @@ use processors::runs_at;
 ghost use mathlib.Core.Path.{_≡_};
 ghost use mathlib.Core.List.{[]};
 ghost use Rattle.search.specs.Below.{allBelow};
-ghost use Rattle.processors.specs.Limits.{processors, tasks};
-ghost use Rattle.processors.specs.Words.{told};
-ghost use Rattle.placement.specs.PlacedTest.{runnableTask, linkHolds, runHolds, linksHigher, taskHolds, processorHolds, isPlaced};
+ghost use Rattle.numbers.specs.Limits.{mostProcessors, mostTasks};
+ghost use Rattle.processors.specs.Words.{jobsFrom};
+ghost use Rattle.scheduler.specs.PlacedTest.{runnableTask, linkHolds, runHolds, linksHigher, taskHolds, processorHolds, isPlaced};
 
 // `t` is a task with a runnable job.
 fn is_runnable_task(modes: &[u8; Jobs::LIMIT], t: u8) -> bool
-    ensures { λ r. ⌜ r ≡ runnableTask (told [] (now (modes .entry))) t ⌝ }
+    ensures { λ r. ⌜ r ≡ runnableTask (jobsFrom [] (now (modes .entry))) t ⌝ }
 {
     (t < Jobs::END) & (Jobs::PREEMPTABLE <= mode_of(modes, t))
 }
 
 fn link_holds(p: Processors, modes: &[u8; Jobs::LIMIT], k: usize) -> bool
-    ensures { λ r. ⌜ r ≡ linkHolds p (told [] (now (modes .entry))) k ⌝ }
+    ensures { λ r. ⌜ r ≡ linkHolds p (jobsFrom [] (now (modes .entry))) k ⌝ }
 {
     let t = link_at(p, k);
     let u = runs_at(p, k);
-    let idle = u == Processors::NOBODY;
-    let some = t != Processors::NOBODY;
+    let idle = u == Limit::NOBODY;
+    let some = t != Limit::NOBODY;
     let runnable = is_runnable_task(modes, t);
     let once = link_of(p, t) == k;
     (!some | (runnable & once & !idle)) & (some | idle)
 }
 
 fn run_holds(p: Processors, modes: &[u8; Jobs::LIMIT], k: usize) -> bool
-    ensures { λ r. ⌜ r ≡ runHolds p (told [] (now (modes .entry))) k ⌝ }
+    ensures { λ r. ⌜ r ≡ runHolds p (jobsFrom [] (now (modes .entry))) k ⌝ }
 {
     let t = runs_at(p, k);
     let linked = link_of(p, t);
@@ -43,20 +44,20 @@ fn run_holds(p: Processors, modes: &[u8; Jobs::LIMIT], k: usize) -> bool
     let kept = (mode_of(modes, t) != Jobs::PREEMPTABLE) | (link_at(p, k) == t);
     let runnable = is_runnable_task(modes, t);
     let once = run_of(p, t) == k;
-    let some = t != Processors::NOBODY;
+    let some = t != Limit::NOBODY;
     !some | (runnable & once & here & kept)
 }
 
 fn links_higher(p: Processors, ranks: &[u64; Jobs::LIMIT], t: u8, k: usize) -> bool
-    ensures { λ r. ⌜ r ≡ linksHigher p (told (now (ranks .entry)) []) t k ⌝ }
+    ensures { λ r. ⌜ r ≡ linksHigher p (jobsFrom (now (ranks .entry)) []) t k ⌝ }
 {
     let u = link_at(p, k);
     let higher = is_higher(ranks, u, t);
-    !(k < p.count) | ((u != Processors::NOBODY) & higher)
+    !(k < p.count) | ((u != Limit::NOBODY) & higher)
 }
 
 fn all_link_higher(p: Processors, ranks: &[u64; Jobs::LIMIT], t: u8) -> bool
-    ensures { λ r. ⌜ r ≡ allBelow processors (linksHigher p (told (now (ranks .entry)) []) t) ⌝ }
+    ensures { λ r. ⌜ r ≡ allBelow mostProcessors (linksHigher p (jobsFrom (now (ranks .entry)) []) t) ⌝ }
 {
     let mut ok = true;
     for k in 0..Processors::LIMIT {
@@ -66,7 +67,7 @@ fn all_link_higher(p: Processors, ranks: &[u64; Jobs::LIMIT], t: u8) -> bool
 }
 
 fn task_holds(p: Processors, ranks: &[u64; Jobs::LIMIT], modes: &[u8; Jobs::LIMIT], t: u8) -> bool
-    ensures { λ r. ⌜ r ≡ taskHolds p (told (now (ranks .entry)) (now (modes .entry))) t ⌝ }
+    ensures { λ r. ⌜ r ≡ taskHolds p (jobsFrom (now (ranks .entry)) (now (modes .entry))) t ⌝ }
 {
     let below = !is_unlinked(p, modes, t) | all_link_higher(p, ranks, t);
     let runs = (mode_of(modes, t) != Jobs::NON_PREEMPTABLE) | (run_of(p, t) < Processors::LIMIT);
@@ -75,15 +76,15 @@ fn task_holds(p: Processors, ranks: &[u64; Jobs::LIMIT], modes: &[u8; Jobs::LIMI
 
 // The clauses of processor `k`.
 fn processor_holds(p: Processors, modes: &[u8; Jobs::LIMIT], k: usize) -> bool
-    ensures { λ r. ⌜ r ≡ processorHolds p (told [] (now (modes .entry))) k ⌝ }
+    ensures { λ r. ⌜ r ≡ processorHolds p (jobsFrom [] (now (modes .entry))) k ⌝ }
 {
-    let empty = (link_at(p, k) == Processors::NOBODY) & (runs_at(p, k) == Processors::NOBODY);
+    let empty = (link_at(p, k) == Limit::NOBODY) & (runs_at(p, k) == Limit::NOBODY);
     let beyond = !(p.count <= k) | empty;
     link_holds(p, modes, k) & run_holds(p, modes, k) & beyond
 }
 
 fn all_processors_hold(p: Processors, modes: &[u8; Jobs::LIMIT]) -> bool
-    ensures { λ r. ⌜ r ≡ allBelow processors (processorHolds p (told [] (now (modes .entry)))) ⌝ }
+    ensures { λ r. ⌜ r ≡ allBelow mostProcessors (processorHolds p (jobsFrom [] (now (modes .entry)))) ⌝ }
 {
     let mut ok = true;
     for k in 0..Processors::LIMIT {
@@ -93,7 +94,7 @@ fn all_processors_hold(p: Processors, modes: &[u8; Jobs::LIMIT]) -> bool
 }
 
 fn all_tasks_hold(p: Processors, ranks: &[u64; Jobs::LIMIT], modes: &[u8; Jobs::LIMIT]) -> bool
-    ensures { λ r. ⌜ r ≡ allBelow tasks (taskHolds p (told (now (ranks .entry)) (now (modes .entry)))) ⌝ }
+    ensures { λ r. ⌜ r ≡ allBelow mostTasks (taskHolds p (jobsFrom (now (ranks .entry)) (now (modes .entry)))) ⌝ }
 {
     let mut ok = true;
     for t in 0..Jobs::END {

@@ -7,25 +7,26 @@ use lib.ListN.{getD, set, replicate}
 use Rattle.search.specs.Words.{if_then_else_, _is_, _isn't_}
 use Rattle.search.specs.First.{first}
 use Rattle.search.specs.Table.{table}
-use Rattle.processors.specs.Limits.{processors, tasks, nobody, off, preemptable}
+use Rattle.numbers.specs.Limits.{mostProcessors, mostTasks, nobody}
+use Rattle.processors.specs.Modes.{off, preemptable}
 use Rattle.processors.specs.declared.Jobs.{Jobs}
 use Rattle.processors.specs.declared.Processors.{Processors}
 
 -- ---- jobs
 -- what is told of each task's job: its rank and its mode
-abbrev pub told : List ℕ → List ℕ → Jobs
-told ranks modes = record { ranks = ranks; modes = modes }
+abbrev pub jobsFrom : List ℕ → List ℕ → Jobs
+jobsFrom ranks modes = record { ranks = ranks; modes = modes }
 
 -- the modes of the first n tasks; from there on no job is runnable
 unfoldable pub firstModes : ℕ → List ℕ → List ℕ
-firstModes n modes = table (λ t. if ltb t n then getD modes t off else off) tasks
+firstModes n modes = table (λ t. if ltb t n then getD modes t off else off) mostTasks
 
 -- past the last task the rank is 0, and no job is runnable
 unfoldable pub rankOf : Jobs → ℕ → ℕ
-rankOf j t = if ltb t tasks then getD (j .ranks) t 0 else 0
+rankOf j t = if ltb t mostTasks then getD (j .ranks) t 0 else 0
 
 unfoldable pub modeOf : Jobs → ℕ → ℕ
-modeOf j t = if ltb t tasks then getD (j .modes) t off else off
+modeOf j t = if ltb t mostTasks then getD (j .modes) t off else off
 
 abbrev pub isRunnable : Jobs → ℕ → Bool
 isRunnable j t = leb preemptable (modeOf j t)
@@ -46,9 +47,9 @@ link p k = getD (p .linked) k nobody
 abbrev pub runs : Processors → ℕ → ℕ
 runs p k = getD (p .running) k nobody
 
--- the first processor with t in a list of the processors' tasks; `processors` for none
+-- the first processor with t in a list of the processors' tasks; `mostProcessors` for none
 abbrev pub placeOf : List ℕ → ℕ → ℕ
-placeOf l t = first (λ k. getD l k nobody is t) 0 processors
+placeOf l t = first (λ k. getD l k nobody is t) 0 mostProcessors
 
 -- the processor that is linked to t, and the one that runs t
 unfoldable pub linkOf : Processors → ℕ → ℕ
@@ -59,7 +60,7 @@ runOf p t = placeOf (p .running) t
 
 -- t is runnable and no processor is linked to it
 abbrev pub isUnlinked : Processors → Jobs → ℕ → Bool
-isUnlinked p j t = isRunnable j t && leb processors (linkOf p t)
+isUnlinked p j t = isRunnable j t && leb mostProcessors (linkOf p t)
 
 -- processor k is linked to a job that it does not run
 abbrev pub isAwaited : Processors → ℕ → Bool
@@ -76,4 +77,4 @@ linkOn p k t = record { count = p .count; linked = set (p .linked) k t; running 
 
 -- none of `count` processors has a link, and none runs a job
 unfoldable pub noneLinked : ℕ → Processors
-noneLinked count = record { count = count; linked = replicate processors nobody; running = replicate processors nobody }
+noneLinked count = record { count = count; linked = replicate mostProcessors nobody; running = replicate mostProcessors nobody }

@@ -1,5 +1,6 @@
 // One processor changed.
 use crate::Processors;
+use numbers::Limit;
 ghost use mathlib.Core.Path.{_≡_};
 ghost use Rattle.processors.specs.Words.{placeOn, linkOn, noneLinked};
 
@@ -9,8 +10,8 @@ pub fn none_linked(count: usize) -> Processors
 {
     Processors {
         count,
-        linked: [Processors::NOBODY; Processors::LIMIT],
-        running: [Processors::NOBODY; Processors::LIMIT],
+        linked: [Limit::NOBODY; Processors::LIMIT],
+        running: [Limit::NOBODY; Processors::LIMIT],
     }
 }
 

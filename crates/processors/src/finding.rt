@@ -1,15 +1,16 @@
 // What the moves look up: a task's job, a processor's tasks, and a task's processor.
 use crate::Jobs;
 use crate::Processors;
+use numbers::Limit;
 ghost use mathlib.Core.Path.{_≡_};
 ghost use mathlib.Core.List.{[]};
 ghost use lib.ListN.{getD};
-ghost use Rattle.processors.specs.Limits.{nobody};
-ghost use Rattle.processors.specs.Words.{told, rankOf, modeOf, isHigher, link, runs, placeOf, linkOf, runOf, isUnlinked};
+ghost use Rattle.numbers.specs.Limits.{nobody};
+ghost use Rattle.processors.specs.Words.{jobsFrom, rankOf, modeOf, isHigher, link, runs, placeOf, linkOf, runOf, isUnlinked};
 
 // A rank is read from the ranks alone and a mode from the modes: the contracts leave the other table empty.
 fn rank_of(ranks: &[u64; Jobs::LIMIT], t: u8) -> u64
-    ensures { λ r. ⌜ r ≡ rankOf (told (now (ranks .entry)) []) t ⌝ }
+    ensures { λ r. ⌜ r ≡ rankOf (jobsFrom (now (ranks .entry)) []) t ⌝ }
 {
     let i = t as usize;
     if i < Jobs::LIMIT { ranks[i] } else { 0 }
@@ -17,7 +18,7 @@ fn rank_of(ranks: &[u64; Jobs::LIMIT], t: u8) -> u64
 
 // The mode of the job of `t`.
 pub fn mode_of(modes: &[u8; Jobs::LIMIT], t: u8) -> u8
-    ensures { λ r. ⌜ r ≡ modeOf (told [] (now (modes .entry))) t ⌝ }
+    ensures { λ r. ⌜ r ≡ modeOf (jobsFrom [] (now (modes .entry))) t ⌝ }
 {
     let i = t as usize;
     if i < Jobs::LIMIT { modes[i] } else { Jobs::OFF }
@@ -25,7 +26,7 @@ pub fn mode_of(modes: &[u8; Jobs::LIMIT], t: u8) -> u8
 
 // `a` has a higher priority than `b`.
 pub fn is_higher(ranks: &[u64; Jobs::LIMIT], a: u8, b: u8) -> bool
-    ensures { λ r. ⌜ r ≡ isHigher (told (now (ranks .entry)) []) a b ⌝ }
+    ensures { λ r. ⌜ r ≡ isHigher (jobsFrom (now (ranks .entry)) []) a b ⌝ }
 {
     rank_of(ranks, a) < rank_of(ranks, b)
 }
@@ -37,7 +38,7 @@ fn task_at(tasks: [u8; Processors::LIMIT], k: usize) -> u8
     if k < Processors::LIMIT {
         tasks[k]
     } else {
-        Processors::NOBODY
+        Limit::NOBODY
     }
 }
 
@@ -87,7 +88,7 @@ pub fn run_of(p: Processors, t: u8) -> usize
 
 // `t` is runnable and no processor is linked to it.
 pub fn is_unlinked(p: Processors, modes: &[u8; Jobs::LIMIT], t: u8) -> bool
-    ensures { λ r. ⌜ r ≡ isUnlinked p (told [] (now (modes .entry))) t ⌝ }
+    ensures { λ r. ⌜ r ≡ isUnlinked p (jobsFrom [] (now (modes .entry))) t ⌝ }
 {
     if Jobs::PREEMPTABLE <= mode_of(modes, t) {
         Processors::LIMIT <= link_of(p, t)

@@ -1,4 +1,4 @@
-// Who is linked and who runs: the processors, and what is told of each task's job.
+// Who is linked and who runs: the processors, and the rank and mode of each task's job.
 mod changing;
 mod finding;
 
@@ -12,6 +12,7 @@ pub use finding::link_of;
 pub use finding::mode_of;
 pub use finding::run_of;
 pub use finding::runs_at;
+use numbers::Limit;
 
 // Each processor's linked task and the task on it; nobody from `count` on.
 pub struct Processors {
@@ -21,19 +22,17 @@ pub struct Processors {
 }
 
 impl Processors {
-    pub const LIMIT: usize = 8;
-    // No task; what an empty place holds.
-    pub const NOBODY: u8 = 255;
+    pub const LIMIT: usize = Limit::PROCESSORS;
 }
 
-// What the scheduler is told of each task's job: its rank, lower for a higher priority, and its mode.
+// What the scheduler knows of each task's job: its rank, lower for a higher priority, and its mode.
 pub struct Jobs {
     pub ranks: [u64; Jobs::LIMIT],
     pub modes: [u8; Jobs::LIMIT],
 }
 
 impl Jobs {
-    pub const LIMIT: usize = 32;
+    pub const LIMIT: usize = Limit::TASKS;
     // Past the last task; a search that finds no task answers so.
     pub const END: u8 = Jobs::LIMIT as u8;
     // The modes: no runnable job, as of a task whose job is suspended; or a runnable job, and which kind.

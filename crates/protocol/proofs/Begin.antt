@@ -13,14 +13,15 @@ use Rattle.search.proofs.Tables.{replicate-at}
 use Rattle.queue.proofs.Laws.{empty-tidy}
 use Rattle.processors.specs.Words.{noneLinked}
 use Rattle.scheduler.proofs.Laws.{none-placed}
-use Rattle.input.specs.Limits.{mostTasks, mostResources}
-use Rattle.setups.specs.Refusals.{setUpRefusal}
+use Rattle.numbers.specs.Limits.{mostTasks, mostResources, mostRequests, nobody, nothing}
+use Rattle.setups.specs.Refusals.{setupRefusal}
 use Rattle.setups.specs.Clearing.{cleared, isClear}
-use Rattle.input.specs.declared.SetUp.{SetUp}
+use Rattle.input.specs.declared.Setup.{Setup}
 use Rattle.setups.proofs.Accepted.{accepted-iff}
 use Rattle.setups.proofs.Names.{group-low, group-kind}
 use Rattle.setups.proofs.Cleared.{cleared-refusal, cleared-clear}
-use Rattle.protocol.specs.Words.{mostRequests, nobody, lastClock, sum, absent, standingNo, noTask, noGroup, task, group, stand, deadline, depth, request, holder, len}
+use Rattle.protocol.specs.Words.{lastClock, sum, absent, standingNo, task, group, stand, deadline, depth, request, holder, len}
+use Rattle.protocol.specs.Records.{noTask, noGroup}
 use Rattle.protocol.specs.Ranks.{jobs}
 use Rattle.protocol.specs.Events.{fresh, begin}
 use Rattle.protocol.specs.declared.Task.{Task}
@@ -29,7 +30,7 @@ use Rattle.protocol.specs.declared.State.{State}
 use Rattle.protocol.proofs.Statements.{Grouped, TimesOk, TaskOk, GroupOk, Sound}
 use Rattle.protocol.proofs.Told.{mode-runs}
 
-module _ (c : SetUp) (s : State) where
+module _ (c : Setup) (s : State) where
   module _ (t : ℕ) (e : task s t ≡ noTask) where
     gone : stand s t ≡ absent
     unfolding stand
@@ -44,7 +45,7 @@ module _ (c : SetUp) (s : State) where
     no-task-times now = record {
       arrived = λ q. never (ap (λ (x : Task). x .arrived) e) q;
       pending = λ q. absurd (q gone);
-      idle = λ _. ap (λ (x : Task). x .deadline) e;
+      undated = λ _. ap (λ (x : Task). x .deadline) e;
       totals = omega (arith, ap (λ (x : Task). sum (x .totals)) e);
       beyond = λ _. (ap (λ (x : Task). x .arrived) e, ap (λ (x : Task). x .last) e, ap (λ (x : Task). sum (x .totals)) e);
     }
@@ -65,7 +66,7 @@ module _ (c : SetUp) (s : State) where
 
     pub no-task-blank : (i : ℕ) → request s t i ≡ nobody
     unfolding request
-    no-task-blank i = ap (λ (x : Task). getD (x .requests) i nobody) e ∙ replicate-at mostRequests i nobody
+    no-task-blank i = ap (λ (x : Task). getD (x .requests) i nothing) e ∙ replicate-at mostRequests i nobody
 
   module _ (g : ℕ) (e : group s g ≡ noGroup) where
     empty-queue : len s g ≡ 0
@@ -85,13 +86,13 @@ module _ (c : SetUp) (s : State) where
     no-group-tidy = subst (λ (x : Group). Tidy (x .queue)) (sym e) empty-tidy
 
 -- ---- what an accepted set-up's groups are
-pub accepted-grouped : (c : SetUp) → setUpRefusal c ≡ 0 → Grouped c
+pub accepted-grouped : (c : Setup) → setupRefusal c ≡ 0 → Grouped c
 accepted-grouped c good =
     let A = accepted-iff c .0 good in
     record { few-tasks = A .tasks .1; few-resources = A .resources; kinds = A .kinds; low = group-low c A; alike = group-kind c A }
 
 -- ---- the state of a set-up, none of whose tasks has arrived
-module _ (c : SetUp) (good : setUpRefusal c ≡ 0) (clean : isClear c ≡ true) (small : c .start ≤ lastClock) where
+module _ (c : Setup) (good : setupRefusal c ≡ 0) (clean : isClear c ≡ true) (small : c .start ≤ lastClock) where
   no-task : (t : ℕ) → task (fresh c) t ≡ noTask
   unfolding fresh
   no-task t = replicate-at mostTasks t noTask
@@ -123,10 +124,10 @@ module _ (c : SetUp) (good : setUpRefusal c ≡ 0) (clean : isClear c ≡ true) 
             (λ t r. let e = gone c s t (no-task t) in ⊎-elim (λ q. omega arith) (λ q. omega arith) (mode-runs c s t (r .mode) .1));
       }
 
-begin-is : (c : SetUp) → setUpRefusal c ≡ 0 → begin c .state ≡ fresh (cleared c)
+begin-is : (c : Setup) → setupRefusal c ≡ 0 → begin c .state ≡ fresh (cleared c)
 unfolding begin
-begin-is c good = rw (eq-eqb (setUpRefusal c) 0 good)
+begin-is c good = rw (eq-eqb (setupRefusal c) 0 good)
 
-pub begin-sound : (c : SetUp) → setUpRefusal c ≡ 0 → c .start ≤ lastClock → Sound (begin c .state)
+pub begin-sound : (c : Setup) → setupRefusal c ≡ 0 → c .start ≤ lastClock → Sound (begin c .state)
 unfolding cleared
 begin-sound c good small = subst Sound (sym (begin-is c good)) (fresh-sound (cleared c) (cleared-refusal c ∙ good) (cleared-clear c) small)

@@ -10,18 +10,19 @@ use Rattle.queue.specs.Waiting.{appended, withoutFirst}
 use Rattle.queue.specs.declared.Queue.{Queue}
 use Rattle.queue.proofs.Laws.{append-tidy, without-tidy}
 use Rattle.processors.specs.declared.Processors.{Processors}
-use Rattle.input.specs.Limits.{mostTasks, mostResources, long}
+use Rattle.numbers.specs.Limits.{mostTasks, mostResources, mostRequests, nobody}
+use Rattle.input.specs.Kinds.{long}
 use Rattle.input.specs.Words.{kind}
-use Rattle.input.specs.declared.SetUp.{SetUp}
-use Rattle.protocol.specs.Words.{mostRequests, nobody, group, depth, request, holder, len}
-use Rattle.protocol.specs.Locks.{onTask, withGroup, opens, queues, closes, frees, nextAt, calls}
-use Rattle.protocol.specs.Events.{withProcessors}
+use Rattle.input.specs.declared.Setup.{Setup}
+use Rattle.protocol.specs.Words.{group, depth, request, holder, len}
+use Rattle.protocol.specs.Locks.{onTask, withGroup, opens, enqueues, closes, frees, nextAt, dequeues}
+use Rattle.protocol.specs.Records.{withProcessors}
 use Rattle.protocol.specs.declared.Task.{Task}
 use Rattle.protocol.specs.declared.Group.{Group}
 use Rattle.protocol.specs.declared.State.{State}
 use Rattle.protocol.proofs.Statements.{LocksBut, Sized, Blank, SameTask, SameGroup, Closes, Stands}
 use Rattle.protocol.proofs.Carry.{at-one, task-carry, group-carry, stays-in}
-use Rattle.protocol.proofs.Views.{group-at, group-off, opens-view, queues-view, calls-view, closes-view, frees-view, with-task, with-group}
+use Rattle.protocol.proofs.Views.{group-at, group-off, opens-view, enqueues-view, dequeues-view, closes-view, frees-view, with-task, with-group}
 
 -- no request of u stands past its depth
 abbrev pub Gone : State → ℕ → Type 0
@@ -44,7 +45,7 @@ tidy-group s g h q l tidy y = at-one (λ a. Tidy (group (withGroup g h q s) a .q
     (subst (λ (x : Group). Tidy (x .queue)) (sym (group-at s g h q l)) y)
     (λ a d. subst (λ (x : Group). Tidy (x .queue)) (sym (group-off s g h q a d)) (tidy a))
 
-module _ (c : SetUp) (s : State) (Z : Sized s) (B : Blank s) (g : ℕ) (g-in : g < mostResources) where
+module _ (c : Setup) (s : State) (Z : Sized s) (B : Blank s) (g : ℕ) (g-in : g < mostResources) where
   new-queue : (h : ℕ) (q : Queue) → Tidy q → (a : ℕ) → Tidy (group (withGroup g h q s) a .queue)
   new-queue h q = tidy-group s g h q (omega (arith, Z .groups)) (B .queues)
 
@@ -58,22 +59,22 @@ module _ (c : SetUp) (s : State) (Z : Sized s) (B : Blank s) (g : ℕ) (g-in : g
         queues = new-queue t (group s g .queue) (B .queues g);
       }
 
-  pub queues-blank : (t r : ℕ) → t < mostTasks → kind c r ≤ long → len s g < capacity → Blank (queues c t r g s)
-  unfolding queues len
-  queues-blank t r t-in k-in room =
-      let s′ = queues c t r g s in
-      let E = queues-view c s Z B g g-in t r t-in k-in room in
+  pub enqueues-blank : (t r : ℕ) → t < mostTasks → kind c r ≤ long → len s g < capacity → Blank (enqueues c t r g s)
+  unfolding enqueues len
+  enqueues-blank t r t-in k-in room =
+      let s′ = enqueues c t r g s in
+      let E = enqueues-view c s Z B g g-in t r t-in k-in room in
       record {
         requests = at-one (Gone s′) t (λ i h. E .requested i ∙ B .requests t i (omega (arith, E .deep))) (λ u d. same-gone s s′ B u (E .tasks u d));
         queues = new-queue (group s g .holder) (appended (group s g .queue) t) (append-tidy (group s g .queue) t (B .queues g) room);
       }
 
-  pub calls-blank : nextAt s g < mostTasks → (n : ℕ) → len s g ≡ suc n → Blank (calls g s)
-  unfolding calls
-  calls-blank next-in n some =
-      let s′ = calls g s in
+  pub dequeues-blank : nextAt s g < mostTasks → (n : ℕ) → len s g ≡ suc n → Blank (dequeues g s)
+  unfolding dequeues
+  dequeues-blank next-in n some =
+      let s′ = dequeues g s in
       let u = nextAt s g in
-      let E = calls-view c s Z B g g-in next-in n some in
+      let E = dequeues-view c s Z B g g-in next-in n some in
       record {
         requests = at-one (Gone s′) u (λ i h. E .requested i ∙ B .requests u i (omega (arith, E .deep))) (λ v d. same-gone s s′ B v (E .tasks v d));
         queues = new-queue (group s g .holder) (withoutFirst (group s g .queue)) (without-tidy (group s g .queue) (B .queues g));
@@ -97,7 +98,7 @@ stands-blank s t f B none E =
     record { requests = at-one (Gone s′) t (λ i l. E .requested i ∙ B .requests t i (omega arith)) (λ u d. same-gone s s′ B u (E .tasks u d)); queues = B .queues }
 
 -- all tasks and groups are the same
-pub same-locks : (c : SetUp) (s s′ : State) (x : ℕ) → ((u : ℕ) → SameTask s s′ u) → ((a : ℕ) → SameGroup s s′ a) → LocksBut c s x → LocksBut c s′ x
+pub same-locks : (c : Setup) (s s′ : State) (x : ℕ) → ((u : ℕ) → SameTask s s′ u) → ((a : ℕ) → SameGroup s s′ a) → LocksBut c s x → LocksBut c s′ x
 same-locks c s s′ x E F L = record {
   tasks = λ u. task-carry c s s′ u (E u) (λ a _ q. F a .holds ∙ q) (λ a i h q. stays-in c s s′ a i u (F a) h q) (L .tasks u);
   groups = λ a. group-carry c s s′ x x a (F a)
@@ -105,7 +106,7 @@ same-locks c s s′ x E F L = record {
       (λ u l q. let e = E u in (omega (arith, e .stood), rw (e .wants) q)) (λ z. z) (L .groups a);
 }
 
-module _ (c : SetUp) (s : State) (p : Processors) where
+module _ (c : Setup) (s : State) (p : Processors) where
   pub with-blank : Blank s → Blank (withProcessors p s)
   with-blank B = record { requests = λ u. same-gone s (withProcessors p s) B u (with-task c s p u); queues = B .queues }
 

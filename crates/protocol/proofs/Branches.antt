@@ -7,15 +7,15 @@ use native.Mathlib.Omega.{arith}
 use native.Mathlib.Decide.{ℕ-discrete}
 use borrow.Author.Tests.{eqb-true, eqb-false, eq-eqb, ne-eqb}
 use Rattle.search.specs.Words.{if_then_else_, _is_}
-use Rattle.input.specs.Limits.{short}
+use Rattle.input.specs.Kinds.{short, arrival, finish, request as asking, completion, passing}
 use Rattle.input.specs.Words.{kind}
-use Rattle.input.specs.Kinds.{arrival, finish, request as asking, completion, passing}
 use Rattle.setups.specs.Naming.{groupOf}
-use Rattle.input.specs.declared.SetUp.{SetUp}
-use Rattle.protocol.specs.Words.{nobody, holder, len}
-use Rattle.protocol.specs.Locks.{openOfKind, opens, queues, closes, frees, nextAt, passes}
+use Rattle.input.specs.declared.Setup.{Setup}
+use Rattle.numbers.specs.Limits.{nobody}
+use Rattle.protocol.specs.Words.{holder, len}
+use Rattle.protocol.specs.Locks.{openOfKind, opens, enqueues, closes, frees, nextAt, passes}
 use Rattle.protocol.specs.Edited.{requestEdit, completeEdit}
-use Rattle.protocol.specs.Events.{Prefers, arrives, leaves, softens, givesWay, requestEvent, completeEvent}
+use Rattle.protocol.specs.Events.{Prefers, arrives, leaves, becomesPreemptable, givesWay, requestEvent, completeEvent}
 use Rattle.protocol.specs.declared.State.{State}
 
 pub kind-by : (P : State → Type 0) (n : ℕ) (a b q d z : State) → (arrival ≤ n) × (n ≤ passing)
@@ -39,10 +39,10 @@ kind-by P n a b q d z l comes goes asks ends passes =
           ])
     ]
 
-module _ (c : SetUp) (t r : ℕ) (s : State) (P : State → Type 0) where
+module _ (c : Setup) (t r : ℕ) (s : State) (P : State → Type 0) where
   pub request-by : ((openOfKind c s t r ≡ true) ⊎ (holder s (groupOf c r) ≡ nobody) → P (opens t r (groupOf c r) s))
-      → (openOfKind c s t r ≡ false → holder s (groupOf c r) ≢ nobody → kind c r ≡ short → P (queues c t r (groupOf c r) s))
-      → (openOfKind c s t r ≡ false → holder s (groupOf c r) ≢ nobody → kind c r ≢ short → P (leaves c t (queues c t r (groupOf c r) s)))
+      → (openOfKind c s t r ≡ false → holder s (groupOf c r) ≢ nobody → kind c r ≡ short → P (enqueues c t r (groupOf c r) s))
+      → (openOfKind c s t r ≡ false → holder s (groupOf c r) ≢ nobody → kind c r ≢ short → P (leaves c t (enqueues c t r (groupOf c r) s)))
       → P (requestEvent c t r s)
   unfolding requestEvent
   request-by a b d = go (openOfKind c s t r) refl (holder s (groupOf c r) is nobody) refl (kind c r is short) refl
@@ -53,10 +53,10 @@ module _ (c : SetUp) (t r : ℕ) (s : State) (P : State → Type 0) where
       go false e false f true q = rw (e, f, q) (b e (eqb-false _ _ f) (eqb-true _ _ q))
       go false e false f false q = rw (e, f, q) (d e (eqb-false _ _ f) (eqb-false _ _ q))
 
-module _ (pick : Prefers) (c : SetUp) (t r : ℕ) (s : State) (P : State → Type 0) where
+module _ (pick : Prefers) (c : Setup) (t r : ℕ) (s : State) (P : State → Type 0) where
   pub complete-by : (openOfKind c (closes t s) t r ≡ true → P (closes t s))
-      → (openOfKind c (closes t s) t r ≡ false → kind c r ≡ short → len s (groupOf c r) ≡ 0 → P (softens c t (frees (groupOf c r) (closes t s))))
-      → (openOfKind c (closes t s) t r ≡ false → kind c r ≡ short → len s (groupOf c r) ≢ 0 → P (softens c t (passes (groupOf c r) (frees (groupOf c r) (closes t s)))))
+      → (openOfKind c (closes t s) t r ≡ false → kind c r ≡ short → len s (groupOf c r) ≡ 0 → P (becomesPreemptable c t (frees (groupOf c r) (closes t s))))
+      → (openOfKind c (closes t s) t r ≡ false → kind c r ≡ short → len s (groupOf c r) ≢ 0 → P (becomesPreemptable c t (passes (groupOf c r) (frees (groupOf c r) (closes t s)))))
       → (openOfKind c (closes t s) t r ≡ false → kind c r ≢ short → len s (groupOf c r) ≡ 0 → P (givesWay c t (frees (groupOf c r) (closes t s))))
       → (openOfKind c (closes t s) t r ≡ false → kind c r ≢ short → len s (groupOf c r) ≢ 0
       → P (arrives pick c (nextAt s (groupOf c r)) (passes (groupOf c r) (givesWay c t (frees (groupOf c r) (closes t s))))))
@@ -72,9 +72,9 @@ module _ (pick : Prefers) (c : SetUp) (t r : ℕ) (s : State) (P : State → Typ
       go false e false q false z = rw (e, q, z) (lp e (eqb-false _ _ q) (eqb-false _ _ z))
 
 -- ---- tasks and groups alone
-module _ (c : SetUp) (t r : ℕ) (s : State) (P : State → Type 0) where
+module _ (c : Setup) (t r : ℕ) (s : State) (P : State → Type 0) where
   pub request-edit-by : ((openOfKind c s t r ≡ true) ⊎ (holder s (groupOf c r) ≡ nobody) → P (opens t r (groupOf c r) s))
-      → (openOfKind c s t r ≡ false → holder s (groupOf c r) ≢ nobody → P (queues c t r (groupOf c r) s))
+      → (openOfKind c s t r ≡ false → holder s (groupOf c r) ≢ nobody → P (enqueues c t r (groupOf c r) s))
       → P (requestEdit c t r s)
   unfolding requestEdit
   request-edit-by a b = go (openOfKind c s t r) refl (holder s (groupOf c r) is nobody) refl

@@ -5,8 +5,9 @@ use mathlib.Core.Logic.{_≢_}
 use native.Mathlib.Omega.{arith}
 use native.Mathlib.Decide.{ℕ-discrete}
 use Rattle.setups.specs.Naming.{groupOf}
-use Rattle.input.specs.declared.SetUp.{SetUp}
-use Rattle.protocol.specs.Words.{nobody, spinning, stand, asked, depth, request, holder, len, waiter}
+use Rattle.input.specs.declared.Setup.{Setup}
+use Rattle.numbers.specs.Limits.{nobody}
+use Rattle.protocol.specs.Words.{spinning, stand, asked, depth, request, holder, len, waiter}
 use Rattle.protocol.specs.declared.State.{State}
 use Rattle.protocol.proofs.Statements.{OpenOk, TaskOk, GroupOk, SameTask, SameGroup}
 
@@ -14,7 +15,7 @@ use Rattle.protocol.proofs.Statements.{OpenOk, TaskOk, GroupOk, SameTas
 pub at-one : (P : ℕ → Type 0) (t : ℕ) → P t → ((u : ℕ) → u ≢ t → P u) → (u : ℕ) → P u
 at-one P t h o u = elim (ℕ-discrete u t) [ yes e ↦ subst P (sym e) h | no d ↦ o u d ]
 
-module _ (c : SetUp) (s s′ : State) where
+module _ (c : Setup) (s s′ : State) where
   pub open-carry : (u : ℕ) → depth s′ u ≡ depth s u → ((i : ℕ) → request s′ u i ≡ request s u i)
       → ((a i : ℕ) → i < depth s u → groupOf c (request s u i) ≡ a → holder s a ≡ u → holder s′ a ≡ u) → OpenOk c s u → OpenOk c s′ u
   open-carry u deep req hold K = record {

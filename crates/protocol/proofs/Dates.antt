@@ -14,19 +14,19 @@ use borrow.Author.Tests.{not-true, eqb-true, eqb-false, eq-eqb, ne-eqb}
 use Rattle.search.specs.Words.{if_then_else_, _is_, _isn't_}
 use Rattle.search.proofs.Tables.{table-at, table-length, table-past}
 use Rattle.queue.specs.declared.Queue.{Queue}
-use Rattle.processors.specs.Limits.{processors}
+use Rattle.numbers.specs.Limits.{mostProcessors, mostTasks, nobody}
 use Rattle.processors.specs.Words.{linkOf, runOf}
 use Rattle.processors.specs.declared.Processors.{Processors}
 use Rattle.scheduler.specs.Placed.{Placed}
 use Rattle.scheduler.proofs.Laws.{alike-law}
-use Rattle.input.specs.Limits.{mostTasks}
 use Rattle.input.specs.Words.{period}
-use Rattle.input.specs.declared.SetUp.{SetUp}
-use Rattle.protocol.specs.Words.{totalCount, nobody, lastClock, sum, absent, spinning, suspended, standingNo, askedOf, noTask, task, stand, asked, deadline, depth, request}
+use Rattle.input.specs.declared.Setup.{Setup}
+use Rattle.protocol.specs.Records.{totalCount, noTask, withProcessors}
+use Rattle.protocol.specs.Words.{lastClock, sum, absent, spinning, suspended, standingNo, askedOf, task, stand, asked, deadline, depth, request}
 use Rattle.protocol.specs.Ranks.{own, jobs}
 use Rattle.protocol.specs.Situations.{situation, totalOf}
 use Rattle.protocol.specs.Locks.{arriving, departing, onTask, withGroup}
-use Rattle.protocol.specs.Events.{withProcessors, counting, charged}
+use Rattle.protocol.specs.Events.{counting, charged}
 use Rattle.protocol.specs.declared.Situation.{Situation}
 use Rattle.protocol.specs.declared.Situation.the-variants.{Running, Spinning, LinkedOnly, Ready, Suspended}
 use Rattle.protocol.specs.declared.Task.{Task}
@@ -86,7 +86,7 @@ unfolding stand
 quiet-with s p = record { setup = refl; clock = refl; dated = λ u. refl; still = λ u. refl }
 
 -- ---- the times of a task
-module _ (c : SetUp) (now : ℕ) (s s′ : State) (t : ℕ) where
+module _ (c : Setup) (now : ℕ) (s s′ : State) (t : ℕ) where
   times-carry : dates (task s′ t) ≡ dates (task s t) → (stand s′ t is absent) ≡ (stand s t is absent) → TimesOk c now s t → TimesOk c now s′ t
   unfolding deadline
   times-carry e same K =
@@ -97,16 +97,16 @@ module _ (c : SetUp) (now : ℕ) (s s′ : State) (t : ℕ) where
       record {
         arrived = λ q. let k = K .arrived (sym a ∙ q) in (omega (arith, k .0), omega (arith, k .1));
         pending = λ q. let k = K .pending (λ z. q (eqb-true _ _ (same ∙ eq-eqb _ _ z))) in (a ∙ k .0, omega (arith, k .1));
-        idle = λ q. d ∙ K .idle (eqb-true _ _ (sym same ∙ eq-eqb _ _ q));
+        undated = λ q. d ∙ K .undated (eqb-true _ _ (sym same ∙ eq-eqb _ _ q));
         totals = omega (arith, K .totals);
         beyond = λ b. let k = K .beyond b in (a ∙ k .0, l ∙ k .1, n ∙ k .2);
       }
 
 pub quiet-times : (s s′ : State) → Quiet s s′ → Times s → Times s′
 quiet-times s s′ Q T = record {
-  start = omega (arith, ap (λ (c : SetUp). c .start) (Q .setup), Q .clock, T .start);
+  start = omega (arith, ap (λ (c : Setup). c .start) (Q .setup), Q .clock, T .start);
   clock = omega (arith, Q .clock, T .clock);
-  tasks = λ t. subst₂ (λ (c : SetUp) (n : ℕ). TimesOk c n s′ t) (sym (Q .setup)) (sym (Q .clock)) (times-carry (s .setup) (s .clock) s s′ t (Q .dated t) (Q .still t) (T .tasks t));
+  tasks = λ t. subst₂ (λ (c : Setup) (n : ℕ). TimesOk c n s′ t) (sym (Q .setup)) (sym (Q .clock)) (times-carry (s .setup) (s .clock) s s′ t (Q .dated t) (Q .still t) (T .tasks t));
 }
 
 -- ---- the passing of time
@@ -124,8 +124,8 @@ total-low : (s : State) (t : ℕ) → stand s t ≢ absent → totalOf (situatio
 unfolding situation
 total-low s t h = rw (ne-eqb (stand s t) absent h) (
     if-low (stand s t is suspended) Suspended _ (omega arith) (
-    if-low (ltb (runOf (s .processors) t) processors) _ _ (if-low (stand s t is spinning) Spinning Running (omega arith) (omega arith)) (
-    if-low (ltb (linkOf (s .processors) t) processors) LinkedOnly Ready (omega arith) (omega arith))))
+    if-low (ltb (runOf (s .processors) t) mostProcessors) _ _ (if-low (stand s t is spinning) Spinning Running (omega arith) (omega arith)) (
+    if-low (ltb (linkOf (s .processors) t) mostProcessors) LinkedOnly Ready (omega arith) (omega arith))))
 
 -- a task after n ticks: as it was, but for the total that they go to
 aged : State → ℕ → ℕ → Task
@@ -184,7 +184,7 @@ module _ (s : State) (n : ℕ) (Z : Sized s) where
   aged-own : (w : ℕ) → own (charged n s) w ≡ own s w
   aged-own w = same-own s (charged n s) w (aged-at w .dated .2)
 
-pub charged-steady : (c : SetUp) (s : State) (n : ℕ) → Steady c s → Steady c (charged n s)
+pub charged-steady : (c : Setup) (s : State) (n : ℕ) → Steady c s → Steady c (charged n s)
 unfolding charged aged
 charged-steady c s n S =
     let Z = S .sized in
@@ -200,7 +200,7 @@ charged-steady c s n S =
       locks = same-locks c s s′ nobody (same-aged s n Z) (same-lines s n Z) (S .locks);
     }
 
-pub charged-placed : (c : SetUp) → Grouped c → (s : State) (n : ℕ) → Steady c s → Placed (s .processors) (jobs c s) → Placed (s .processors) (jobs c (charged n s))
+pub charged-placed : (c : Setup) → Grouped c → (s : State) (n : ℕ) → Steady c s → Placed (s .processors) (jobs c s) → Placed (s .processors) (jobs c (charged n s))
 charged-placed c G s n S P =
     let Z = S .sized in
     let s′ = charged n s in
@@ -225,7 +225,7 @@ charged-times s n Z inside room T = record {
       record {
         arrived = λ q. let k = K .arrived (sym (a .dated .0) ∙ q) in (omega (arith, k .0, a .dated .1), omega (arith, k .1, a .dated .1));
         pending = λ q. let k = K .pending (λ z. q (e .stood ∙ z)) in (a .dated .0 ∙ k .0, omega (arith, k .1, a .dated .1, a .dated .2));
-        idle = λ q. a .dated .2 ∙ K .idle (sym (e .stood) ∙ q);
+        undated = λ q. a .dated .2 ∙ K .undated (sym (e .stood) ∙ q);
         totals = omega (arith, a .spent, if-most (stand s t isn't absent) n, K .totals, T .start);
         beyond = λ b.
             let k = K .beyond b in
@@ -255,7 +255,7 @@ module _ (s : State) (t : ℕ) (h : t < length (s .tasks)) (T : Times s) where
       one-times f record {
         arrived = λ _. (omega (arith, T .start), omega arith);
         pending = λ _. (ap (λ (x : Task). x .arrived) e, omega (arith, ap (λ (x : Task). x .deadline) e));
-        idle = λ q. absurd (omega (arith, ap (λ (x : Task). standingNo (x .standing)) e));
+        undated = λ q. absurd (omega (arith, ap (λ (x : Task). standingNo (x .standing)) e));
         totals = omega (arith, T .tasks t .totals, ap (λ (x : Task). sum (x .totals)) e);
         beyond = λ b. absurd (omega arith);
       }
@@ -271,7 +271,7 @@ module _ (s : State) (t : ℕ) (h : t < length (s .tasks)) (T : Times s) where
       one-times departing record {
         arrived = λ q. let k = K .arrived (sym a ∙ q) in (omega (arith, k .0), omega (arith, k .1));
         pending = λ q. absurd (q (ap (λ (x : Task). standingNo (x .standing)) e));
-        idle = λ _. ap (λ (x : Task). x .deadline) e;
+        undated = λ _. ap (λ (x : Task). x .deadline) e;
         totals = omega (arith, K .totals);
         beyond = λ b. let k = K .beyond b in (a ∙ k .0, l ∙ k .1, n ∙ k .2);
       }

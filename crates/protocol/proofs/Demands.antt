@@ -7,11 +7,12 @@ use native.Mathlib.Decide.{ℕ-discrete, decLt}
 use Rattle.search.proofs.Pigeons.{fewer}
 use Rattle.processors.specs.Words.{runs, runOf}
 use Rattle.scheduler.specs.Placed.{Served}
-use Rattle.input.specs.Limits.{mostTasks, short, long}
+use Rattle.numbers.specs.Limits.{mostTasks, nobody}
+use Rattle.input.specs.Kinds.{short, long}
 use Rattle.input.specs.Words.{kind}
 use Rattle.setups.specs.Naming.{groupOf}
-use Rattle.input.specs.declared.SetUp.{SetUp}
-use Rattle.protocol.specs.Words.{nobody, active, spinning, suspended, stand, asked, request, holder, len, waiter}
+use Rattle.input.specs.declared.Setup.{Setup}
+use Rattle.protocol.specs.Words.{active, spinning, suspended, stand, asked, request, holder, len, waiter}
 use Rattle.protocol.specs.Ranks.{jobs}
 use Rattle.protocol.specs.declared.State.{State}
 use Rattle.protocol.proofs.Statements.{Grouped, Locks, Steady}
@@ -19,7 +20,7 @@ use Rattle.protocol.proofs.Edits.{pending-in}
 use Rattle.protocol.proofs.Ranks.{held-in}
 use Rattle.protocol.proofs.Told.{short-true, mode-hard, mode-spin}
 
-module _ (c : SetUp) (G : Grouped c) (s : State) (L : Locks c s) where
+module _ (c : Setup) (G : Grouped c) (s : State) (L : Locks c s) where
   -- who has a request open of the group's kind is active, or spins while the group is long
   pub holder-stands : (g : ℕ) → holder s g ≢ nobody → (stand s (holder s g) ≡ active) ⊎ ((stand s (holder s g) ≡ spinning) × (kind c g ≡ long))
   holder-stands g h =
@@ -53,7 +54,7 @@ module _ (c : SetUp) (G : Grouped c) (s : State) (L : Locks c s) where
             inr (y .0, ⊎-elim (λ z. z) (λ z. absurd (omega (arith, z .1, k))) (holder-stands (groupOf c (asked s o)) (held o (omega (arith, y .0)))))) (holder-stands (groupOf c (asked s t)) (held t h)),
       )
 
-module _ (c : SetUp) (G : Grouped c) (s : State) (S : Steady c s) (X : Served (s .processors) (jobs c s)) (g : ℕ) (is-short : kind c g ≡ short) (busy : holder s g ≢ nobody) where
+module _ (c : Setup) (G : Grouped c) (s : State) (S : Steady c s) (X : Served (s .processors) (jobs c s)) (g : ℕ) (is-short : kind c g ≡ short) (busy : holder s g ≢ nobody) where
   -- a non-preemptable job runs on one of the processors
   abbrev Runs : ℕ → Type 0
   Runs t = (runOf (s .processors) t < s .processors .count) × (runs (s .processors) (runOf (s .processors) t) ≡ t)
@@ -65,7 +66,7 @@ module _ (c : SetUp) (G : Grouped c) (s : State) (S : Steady c s) (X : Served (s
       let r = L .tasks (holder s g) .opened .held (k .0) (k .1) in
       let l : holder s g < mostTasks = omega (arith, G .few-tasks, held-in c G s nobody L g busy .1) in
       ⊎-elim
-      (λ z. X .hard (holder s g) l (mode-hard c s (holder s g) l z (short-true c s (holder s g) (k .0) (k .1) (sym (G .alike _ (r .0)) ∙ ap (kind c) (k .2) ∙ is-short))))
+      (λ z. X .nonpreemptable (holder s g) l (mode-hard c s (holder s g) l z (short-true c s (holder s g) (k .0) (k .1) (sym (G .alike _ (r .0)) ∙ ap (kind c) (k .2) ∙ is-short))))
       (λ z. absurd (omega (arith, z .1))) (holder-stands c G s L g busy)
 
   waiter-runs : (i : ℕ) → i < len s g → Runs (waiter s g i)
@@ -73,7 +74,7 @@ module _ (c : SetUp) (G : Grouped c) (s : State) (S : Steady c s) (X : Served (s
       let q = S .locks .groups g .queued i l in
       let W = S .locks .tasks (waiter s g i) .waits (q .0) in
       let b = pending-in c G s nobody (waiter s g i) (S .locks) (λ e. omega (arith, q .0)) in
-      X .hard (waiter s g i) b (mode-spin c s (waiter s g i) b (omega (arith, W .kinds, G .alike _ (W .inside), ap (kind c) (q .1))))
+      X .nonpreemptable (waiter s g i) b (mode-spin c s (waiter s g i) b (omega (arith, W .kinds, G .alike _ (W .inside), ap (kind c) (q .1))))
 
   -- the holder does not wait where it holds
   not-both : (i : ℕ) → i < len s g → waiter s g i ≢ holder s g

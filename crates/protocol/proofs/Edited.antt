@@ -5,24 +5,25 @@ use mathlib.Core.Bool.{Bool, true, false, _||_}
 use borrow.Author.Tests.{eq-eqb}
 use Rattle.search.specs.Words.{if_then_else_, _is_}
 use Rattle.processors.specs.declared.Processors.{Processors}
-use Rattle.input.specs.Limits.{short}
+use Rattle.input.specs.Kinds.{short, arrival, finish, request as asking, completion}
 use Rattle.input.specs.Words.{kind}
-use Rattle.input.specs.Kinds.{arrival, finish, request as asking, completion}
 use Rattle.setups.specs.Naming.{groupOf}
-use Rattle.input.specs.declared.SetUp.{SetUp}
+use Rattle.input.specs.declared.Setup.{Setup}
 use Rattle.input.specs.declared.Event.{Event}
-use Rattle.protocol.specs.Words.{nobody, asked, holder, len, waiter}
+use Rattle.numbers.specs.Limits.{nobody}
+use Rattle.protocol.specs.Words.{asked, holder, len, waiter}
 use Rattle.protocol.specs.Refusals.{stepOf, judge}
-use Rattle.protocol.specs.Locks.{openOfKind, opens, queues, closes, frees, nextAt, calls, passes, arriveEdit, finishEdit}
+use Rattle.protocol.specs.Locks.{openOfKind, opens, enqueues, closes, frees, nextAt, dequeues, passes, arriveEdit, finishEdit}
 use Rattle.protocol.specs.Edited.{requestEdit, completeEdit, edited}
-use Rattle.protocol.specs.Events.{withProcessors, Prefers, arrives, leaves, softens, givesWay, arriveEvent, finishEvent, requestEvent, completeEvent, charged, act, stepBy}
+use Rattle.protocol.specs.Records.{withProcessors}
+use Rattle.protocol.specs.Events.{Prefers, arrives, leaves, becomesPreemptable, givesWay, arriveEvent, finishEvent, requestEvent, completeEvent, charged, act, stepBy}
 use Rattle.protocol.specs.declared.State.{State}
 
 -- s′ is x but for the processors
 abbrev pub Agrees : State → State → Type 0
 Agrees x s′ = s′ ≡ withProcessors (s′ .processors) x
 
-module _ (c : SetUp) (t r : ℕ) (s : State) where
+module _ (c : Setup) (t r : ℕ) (s : State) where
   abbrev g : ℕ
   g = groupOf c r
 
@@ -30,20 +31,20 @@ module _ (c : SetUp) (t r : ℕ) (s : State) where
   unfolding requestEdit requestEvent leaves
   request-agrees = go (openOfKind c s t r || holder s g is nobody) (kind c r is short)
     where
-      go : (x k : Bool) → Agrees (if x then opens t r g s else queues c t r g s) (if x then opens t r g s else if k then queues c t r g s else leaves c t (queues c t r g s))
+      go : (x k : Bool) → Agrees (if x then opens t r g s else enqueues c t r g s) (if x then opens t r g s else if k then enqueues c t r g s else leaves c t (enqueues c t r g s))
       go true k = refl
       go false true = refl
       go false false = refl
 
   complete-agrees : (pick : Prefers) → Agrees (completeEdit c t r s) (completeEvent pick c t r s)
-  unfolding completeEdit completeEvent arrives softens givesWay passes opens calls asked waiter
+  unfolding completeEdit completeEvent arrives becomesPreemptable givesWay passes opens dequeues asked waiter
   complete-agrees pick = go (openOfKind c (closes t s) t r) (kind c r is short) (len s g is 0)
     where
       f : State
       f = frees g (closes t s)
 
       go : (x k n : Bool) → Agrees (if x then closes t s else if n then f else passes g f)
-          (if x then closes t s else if k then softens c t (if n then f else passes g f)
+          (if x then closes t s else if k then becomesPreemptable c t (if n then f else passes g f)
           else if n then givesWay c t f else arrives pick c (nextAt s g) (passes g (givesWay c t f)))
       go true k n = refl
       go false true true = refl
@@ -59,7 +60,7 @@ pub step-does : (pick : Prefers) (s : State) (e : Event) → judge s e ≡ 0 →
 unfolding stepBy act edited arriveEvent finishEvent arrives leaves
 step-does pick s e ok = rw (eq-eqb (judge s e) 0 ok) (go (e .kind is arrival) (e .kind is finish) (e .kind is asking) (e .kind is completion))
   where
-    c : SetUp
+    c : Setup
     c = s .setup
 
     t : ℕ

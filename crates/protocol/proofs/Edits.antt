@@ -4,17 +4,18 @@ use mathlib.Core.Path.{_≡_, refl, sym, ap, _∙_}
 use mathlib.Core.Logic.{_≢_, _⊎_, inl, inr, ⊎-elim}
 use native.Mathlib.Omega.{arith}
 use native.Mathlib.Decide.{ℕ-discrete, decLt}
-use Rattle.input.specs.Limits.{mostTasks, long}
+use Rattle.numbers.specs.Limits.{mostTasks, mostRequests, nobody}
+use Rattle.input.specs.Kinds.{long}
 use Rattle.input.specs.Words.{kind}
 use Rattle.setups.specs.Naming.{groupOf}
-use Rattle.input.specs.declared.SetUp.{SetUp}
-use Rattle.protocol.specs.Words.{mostRequests, nobody, absent, active, spinning, stand, asked, depth, request, holder, len, waiter}
+use Rattle.input.specs.declared.Setup.{Setup}
+use Rattle.protocol.specs.Words.{absent, active, spinning, stand, asked, depth, request, holder, len, waiter}
 use Rattle.protocol.specs.declared.State.{State}
 use Rattle.protocol.proofs.Statements.{Grouped, OpenOk, TaskOk, GroupOk, LocksBut, SameTask, SameGroup, Opens, Queues, Calls, Closes, Stands}
 use Rattle.protocol.proofs.Carry.{at-one, open-carry, task-carry, group-carry, stays-in}
 
 -- ---- the group that may lack a holder
-pub whole : (c : SetUp) (s : State) (x y : ℕ) → LocksBut c s x → (holder s x ≡ nobody → len s x ≡ 0) → LocksBut c s y
+pub whole : (c : Setup) (s : State) (x y : ℕ) → LocksBut c s x → (holder s x ≡ nobody → len s x ≡ 0) → LocksBut c s y
 whole c s x y L h = record {
   tasks = L .tasks;
   groups = λ g. let K = L .groups g in record {
@@ -26,7 +27,7 @@ whole c s x y L h = record {
 }
 
 -- no group stands past the resources
-pub no-queue : (c : SetUp) → Grouped c → (s : State) (x g : ℕ) → LocksBut c s x → c .resources ≤ g → len s g ≡ 0
+pub no-queue : (c : Setup) → Grouped c → (s : State) (x g : ℕ) → LocksBut c s x → c .resources ≤ g → len s g ≡ 0
 no-queue c G s x g L h = elim (decLt 0 (len s g)) [
   | yes y ↦
       let k = L .groups g .queued 0 y in
@@ -36,23 +37,23 @@ no-queue c G s x g L h = elim (decLt 0 (len s g)) [
 ]
 
 -- who has a job is one of the tasks
-pub pending-in : (c : SetUp) → Grouped c → (s : State) (x t : ℕ) → LocksBut c s x → stand s t ≢ absent → t < mostTasks
+pub pending-in : (c : Setup) → Grouped c → (s : State) (x t : ℕ) → LocksBut c s x → stand s t ≢ absent → t < mostTasks
 pending-in c G s x t L h = omega (arith, G .few-tasks, L .tasks t .inside h)
 
-pub loosen : (c : SetUp) → Grouped c → (s : State) (y : ℕ) → LocksBut c s nobody → LocksBut c s y
+pub loosen : (c : Setup) → Grouped c → (s : State) (y : ℕ) → LocksBut c s nobody → LocksBut c s y
 loosen c G s y L = whole c s nobody y L (λ _. no-queue c G s nobody nobody L (omega (arith, G .few-resources)))
 
 -- ---- an edit of task t and of group g: what it has to show of these two, and of nothing else
-abbrev Has : SetUp → State → ℕ → ℕ → Type 0
+abbrev Has : Setup → State → ℕ → ℕ → Type 0
 Has c s u a = (i : ℕ) × (i < depth s u) × (groupOf c (request s u i) ≡ a)
 
 abbrev Stands-in : State → ℕ → ℕ → Type 0
 Stands-in s a u = (i : ℕ) × (i < len s a) × (waiter s a i ≡ u)
 
-abbrev Waits-at : SetUp → State → ℕ → ℕ → Type 0
+abbrev Waits-at : Setup → State → ℕ → ℕ → Type 0
 Waits-at c s u a = (spinning ≤ stand s u) × (groupOf c (asked s u) ≡ a)
 
-module _ (c : SetUp) (s s′ : State) where
+module _ (c : Setup) (s s′ : State) where
   has-still : (u i a : ℕ) → SameTask s s′ u → i < depth s u → groupOf c (request s u i) ≡ a → Has c s′ u a
   has-still u i a E h q = (i, omega (arith, E .deep), rw (E .requested i) q)
 
@@ -86,7 +87,7 @@ module _ (c : SetUp) (s s′ : State) where
     }
 
 -- ---- a request is opened
-module _ (c : SetUp) (G : Grouped c) (s s′ : State) (t r g : ℕ) (L : LocksBut c s g) (E : Opens s s′ t r g)
+module _ (c : Setup) (G : Grouped c) (s s′ : State) (t r g : ℕ) (L : LocksBut c s g) (E : Opens s s′ t r g)
     (act : stand s t ≡ active) (free : (holder s g ≡ t) ⊎ (holder s g ≡ nobody)) (r-in : r < c .resources) (g-is : groupOf c r ≡ g) (room : depth s t < mostRequests)
     (fresh : (i : ℕ) → i < depth s t → request s t i ≢ r)
     (order : (i : ℕ) → i < depth s t → kind c r ≡ long → kind c (request s t i) ≡ long)
@@ -135,7 +136,7 @@ module _ (c : SetUp) (G : Grouped c) (s s′ : State) (t r g : ℕ) (L : LocksBu
       })
 
 -- ---- t waits at the end of a queue
-module _ (c : SetUp) (s s′ : State) (t r g : ℕ) (L : LocksBut c s nobody) (E : Queues c s s′ t r g)
+module _ (c : Setup) (s s′ : State) (t r g : ℕ) (L : LocksBut c s nobody) (E : Queues c s s′ t r g)
     (act : stand s t ≡ active) (busy : holder s g ≢ nobody) (r-in : r < c .resources) (g-is : groupOf c r ≡ g) (room : depth s t < mostRequests)
     (order : (i : ℕ) → i < depth s t → kind c r ≡ long → kind c (request s t i) ≡ long)
     (other : (i : ℕ) → i < depth s t → kind c (request s t i) ≢ kind c r) where
@@ -168,8 +169,8 @@ module _ (c : SetUp) (s s′ : State) (t r g : ℕ) (L : LocksBut c s nobody) (E
   new : (i : ℕ) → i < len s g → waiter s g i ≢ t
   new i h q = omega (arith, L .groups g .queued i h .0, ap (stand s) q)
 
-  pub queues-locks : LocksBut c s′ nobody
-  queues-locks = edited c s s′ t g (E .tasks) (E .groups) nobody nobody (λ a _ d. d) L
+  pub enqueues-locks : LocksBut c s′ nobody
+  enqueues-locks = edited c s s′ t g (E .tasks) (E .groups) nobody nobody (λ a _ d. d) L
       (λ u d _ q. E .holds ∙ q)
       (λ u i d h q. (i, omega (arith, E .long), E .line i (omega arith) ∙ q))
       (λ a i d. has-q t i a)
@@ -187,7 +188,7 @@ module _ (c : SetUp) (s s′ : State) (t r g : ℕ) (L : LocksBut c s nobody) (E
       })
 
 -- ---- the first of a queue waits no more
-module _ (c : SetUp) (s s′ : State) (u g : ℕ) (L : LocksBut c s g) (E : Calls s s′ u g) (first : waiter s g 0 ≡ u) where
+module _ (c : Setup) (s s′ : State) (u g : ℕ) (L : LocksBut c s g) (E : Calls s s′ u g) (first : waiter s g 0 ≡ u) where
   u-waits : Waits-at c s u g
   u-waits = rw first at (L .groups g .queued 0 (omega (arith, E .long)))
 
@@ -202,8 +203,8 @@ module _ (c : SetUp) (s s′ : State) (u g : ℕ) (L : LocksBut c s g) (E : Call
   shifted v zero d h q = absurd (d (sym q ∙ first))
   shifted v (suc i) d h q = (i, omega (arith, E .long), E .line i ∙ q)
 
-  pub calls-locks : LocksBut c s′ g
-  calls-locks = edited c s s′ u g (E .tasks) (E .groups) g g (λ a _ d. d) L
+  pub dequeues-locks : LocksBut c s′ g
+  dequeues-locks = edited c s s′ u g (E .tasks) (E .groups) g g (λ a _ d. d) L
       (λ v d _ q. E .holds ∙ q)
       shifted
       (λ a i d. has-c u i a)
@@ -224,7 +225,7 @@ module _ (c : SetUp) (s s′ : State) (u g : ℕ) (L : LocksBut c s g) (E : Call
       })
 
 -- ---- the newest request is closed
-module _ (c : SetUp) (s s′ : State) (t g h : ℕ) (L : LocksBut c s g) (E : Closes s s′ t g h)
+module _ (c : Setup) (s s′ : State) (t g h : ℕ) (L : LocksBut c s g) (E : Closes s s′ t g h)
     (act : stand s t ≡ active) (g-is : groupOf c (request s t (depth s′ t)) ≡ g)
     (case : ((h ≡ t) × ((k : ℕ) × (k < depth s′ t) × (groupOf c (request s t k) ≡ g))) ⊎ ((h ≡ nobody) × ((k : ℕ) → k < depth s′ t → groupOf c (request s t k) ≢ g))) where
   was-held : holder s g ≡ t
@@ -268,7 +269,7 @@ module _ (c : SetUp) (s s′ : State) (t g h : ℕ) (L : LocksBut c s g) (E : Cl
       })
 
 -- ---- a job comes or goes
-module _ (c : SetUp) (s s′ : State) (t x : ℕ) (L : LocksBut c s x) (E : Stands s s′ t) (was : stand s t ≤ active) (none : depth s t ≡ 0) (inside : stand s′ t ≢ absent → t < c .tasks) where
+module _ (c : Setup) (s s′ : State) (t x : ℕ) (L : LocksBut c s x) (E : Stands s s′ t) (was : stand s t ≤ active) (none : depth s t ≡ 0) (inside : stand s′ t ≢ absent → t < c .tasks) where
   pub stands-locks : LocksBut c s′ x
   stands-locks = record {
     tasks = at-one (TaskOk c s′) t

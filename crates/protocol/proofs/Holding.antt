@@ -9,12 +9,13 @@ use borrow.Author.Tests.{le-leb, lt-leb, ne-eqb, eq-eqb, leb-true}
 use Rattle.search.specs.Words.{_isn't_}
 use Rattle.search.proofs.Tests.{tests}
 use Rattle.search.proofs.Pigeons.{howMany-same}
-use Rattle.processors.specs.Limits.{processors, tasks, nobody, preemptable}
+use Rattle.numbers.specs.Limits.{mostTasks, nobody}
+use Rattle.processors.specs.Modes.{preemptable}
 use Rattle.processors.specs.Words.{modeOf, isRunnable as isRunnableJob, isAhead as isAheadJob}
 use Rattle.scheduler.specs.Placed.{Settled, Counted}
 use Rattle.scheduler.proofs.Laws.{counted-law}
-use Rattle.placement.proofs.Testing.{placed-of-test, test-of-placed}
-use Rattle.input.specs.Limits.{mostTasks, short}
+use Rattle.scheduler.proofs.Testing.{placed-of-test, test-of-placed}
+use Rattle.input.specs.Kinds.{short}
 use Rattle.input.specs.Words.{kind}
 use Rattle.setups.specs.Naming.{groupOf}
 use Rattle.protocol.specs.Words.{absent, active, spinning, suspended, standingNo, task, stand, asked, holder, len, waiter}
@@ -27,7 +28,7 @@ use Rattle.protocol.specs.declared.State.{State}
 use Rattle.protocol.proofs.Statements.{Grouped, Sound}
 use Rattle.protocol.proofs.Begin.{accepted-grouped}
 use Rattle.protocol.proofs.Ranks.{ranks-apart}
-use Rattle.protocol.proofs.Told.{rank-told, mode-active, mode-spin, mode-sleep, mode-absent}
+use Rattle.protocol.proofs.Told.{rank-in-jobs, mode-active, mode-spin, mode-sleep, mode-absent}
 use Rattle.protocol.proofs.Demands.{chain, holder-stands}
 
 no-more : (x : Standing) → standingNo x ≤ suspended
@@ -42,8 +43,8 @@ module _ (s : State) where
   stand-most t = no-more (task s t .standing)
 
   -- the jobs that the scheduler is told are runnable are those that are
-  told-runnable : (t : ℕ) → t < mostTasks → isRunnableJob (jobs (s .setup) s) t ≡ isRunnable s t
-  told-runnable t h = elim (ℕ-discrete (stand s t) absent) [
+  jobs-runnable : (t : ℕ) → t < mostTasks → isRunnableJob (jobs (s .setup) s) t ≡ isRunnable s t
+  jobs-runnable t h = elim (ℕ-discrete (stand s t) absent) [
     | yes e ↦ rw (lt-leb preemptable (modeOf (jobs (s .setup) s) t) (omega (arith, mode-absent (s .setup) s t h e)), eq-eqb _ _ e)
     | no a ↦ elim (ℕ-discrete (stand s t) suspended) [
       | yes e ↦ rw (lt-leb preemptable (modeOf (jobs (s .setup) s) t) (omega (arith, mode-sleep (s .setup) s t h e)), eq-eqb _ _ e, ne-eqb _ _ a)
@@ -54,36 +55,36 @@ module _ (s : State) where
     ]
   ]
 
-  told-ahead : (t u : ℕ) → t < mostTasks → u < mostTasks → isAheadJob (jobs (s .setup) s) t u ≡ isAhead s t u
-  told-ahead t u h l = rw (told-runnable u l, rank-told (s .setup) s t h, rank-told (s .setup) s u l)
+  jobs-ahead : (t u : ℕ) → t < mostTasks → u < mostTasks → isAheadJob (jobs (s .setup) s) t u ≡ isAhead s t u
+  jobs-ahead t u h l = rw (jobs-runnable u l, rank-in-jobs (s .setup) s t h, rank-in-jobs (s .setup) s u l)
 
   -- the counting form, of the jobs that the scheduler is told and of the state
   counted : (m : ℕ) → s .processors .count ≡ m → Settled (s .processors) (jobs (s .setup) s) → Counted (s .processors) (jobs (s .setup) s) → LinksHighest s m
   counted m e S C = record {
     highest = λ t h.
-        let many = howMany-same (isAheadJob (jobs (s .setup) s) t) (isAhead s t) mostTasks (λ u l. told-ahead t u h l) in (
+        let many = howMany-same (isAheadJob (jobs (s .setup) s) t) (isAhead s t) mostTasks (λ u l. jobs-ahead t u h l) in (
           (λ x.
               let y = C .highest t h .0 x in
-              (sym (told-runnable t h) ∙ le-leb _ _ (y .0 .mode), omega (arith, many, y .1, e))),
-          λ x. C .highest t h .1 (record { task = h; mode = leb-true _ _ (told-runnable t h ∙ x .0) }, omega (arith, many, x .1, e)),
+              (sym (jobs-runnable t h) ∙ le-leb _ _ (y .0 .mode), omega (arith, many, y .1, e))),
+          λ x. C .highest t h .1 (record { task = h; mode = leb-true _ _ (jobs-runnable t h ∙ x .0) }, omega (arith, many, x .1, e)),
         );
     once = S .linked-once;
     many =
-        let r = howMany-same (isRunnableJob (jobs (s .setup) s)) (isRunnable s) mostTasks told-runnable in
+        let r = howMany-same (isRunnableJob (jobs (s .setup) s)) (isRunnable s) mostTasks jobs-runnable in
         omega (arith, C .many, r, e);
   }
 
   uncounted : (m : ℕ) → s .processors .count ≡ m → LinksHighest s m → Counted (s .processors) (jobs (s .setup) s)
   uncounted m e L = record {
     highest = λ t h.
-        let many = howMany-same (isAheadJob (jobs (s .setup) s) t) (isAhead s t) mostTasks (λ u l. told-ahead t u h l) in (
+        let many = howMany-same (isAheadJob (jobs (s .setup) s) t) (isAhead s t) mostTasks (λ u l. jobs-ahead t u h l) in (
           (λ x.
               let y = L .highest t h .0 x in
-              (record { task = h; mode = leb-true _ _ (told-runnable t h ∙ y .0) }, omega (arith, many, y .1, e))),
-          λ x. L .highest t h .1 (sym (told-runnable t h) ∙ le-leb _ _ (x .0 .mode), omega (arith, many, x .1, e)),
+              (record { task = h; mode = leb-true _ _ (jobs-runnable t h ∙ y .0) }, omega (arith, many, y .1, e))),
+          λ x. L .highest t h .1 (sym (jobs-runnable t h) ∙ le-leb _ _ (x .0 .mode), omega (arith, many, x .1, e)),
         );
     many =
-        let r = howMany-same (isRunnableJob (jobs (s .setup) s)) (isRunnable s) mostTasks told-runnable in
+        let r = howMany-same (isRunnableJob (jobs (s .setup) s)) (isRunnable s) mostTasks jobs-runnable in
         omega (arith, L .many, r, e);
   }
 

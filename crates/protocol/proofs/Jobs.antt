@@ -5,29 +5,30 @@ use mathlib.Core.Logic.{_≢_, _⊎_, inl, inr, ⊎-elim}
 use native.Mathlib.Omega.{arith}
 use native.Mathlib.Decide.{ℕ-discrete, decLt}
 use Rattle.processors.specs.Words.{rankOf, modeOf}
-use Rattle.scheduler.specs.Changes.{Alike, Joins, Hardens, Softens, Raises, Leaves, Lowers}
-use Rattle.input.specs.Limits.{mostTasks, short, long}
+use Rattle.scheduler.specs.Changes.{Alike, Joins, BecomesNonPreemptable, BecomesPreemptable, Inherits, Leaves, Restores}
+use Rattle.numbers.specs.Limits.{mostTasks, nobody}
+use Rattle.input.specs.Kinds.{short, long}
 use Rattle.input.specs.Words.{kind}
 use Rattle.setups.specs.Naming.{groupOf}
-use Rattle.input.specs.declared.SetUp.{SetUp}
-use Rattle.protocol.specs.Words.{nobody, absent, active, spinning, suspended, stand, asked, depth, request, holder, len, waiter}
+use Rattle.input.specs.declared.Setup.{Setup}
+use Rattle.protocol.specs.Words.{absent, active, spinning, suspended, stand, asked, depth, request, holder, len, waiter}
 use Rattle.protocol.specs.Ranks.{own, effective, jobs}
 use Rattle.protocol.specs.declared.State.{State}
 use Rattle.protocol.proofs.Statements.{Grouped, Waits, LocksBut, SameTask, SameGroup, Opens, Queues, Calls, Closes, Stands}
 use Rattle.protocol.proofs.Carry.{at-one}
 use Rattle.protocol.proofs.Edits.{pending-in}
 use Rattle.protocol.proofs.Ranks.{behind-still, behind-before, Behind, Effective, held-in, effective-law, sleeps, Keeps, rank-same}
-use Rattle.protocol.proofs.Told.{short-true, short-none, short-same, rank-told, mode-soft, mode-hard, mode-active, mode-spin, mode-sleep, mode-absent, mode-same, mode-kept, rank-kept, told-apart}
+use Rattle.protocol.proofs.Told.{short-true, short-none, short-same, rank-in-jobs, mode-soft, mode-hard, mode-active, mode-spin, mode-sleep, mode-absent, mode-same, mode-kept, rank-kept, jobs-apart}
 
 -- ---- an edit of task t and of group g
-module _ (c : SetUp) (G : Grouped c) (s s′ : State) (x y : ℕ) (L : LocksBut c s x) (L′ : LocksBut c s′ y) (same : (w : ℕ) → own s′ w ≡ own s w) where
+module _ (c : Setup) (G : Grouped c) (s s′ : State) (x y : ℕ) (L : LocksBut c s x) (L′ : LocksBut c s′ y) (same : (w : ℕ) → own s′ w ≡ own s w) where
   -- u's rank turns on g alone, if g is long
   rank-edit : (g : ℕ) → ((a : ℕ) → a ≢ g → SameGroup s s′ a) → (u : ℕ) → (u < mostTasks → kind c g ≡ long → Keeps s s′ u g) → rankOf (jobs c s′) u ≡ rankOf (jobs c s) u
   rank-edit g groups u keep = rank-kept c s s′ u (λ l. rank-same c G s s′ x y L L′ u (omega arith) (same u) (λ w _. same w)
       (at-one (λ a. kind c a ≡ long → Keeps s s′ u a) g (keep l) (λ a d _. inl (groups a d))))
 
 -- the modes turn on t's standing, and on whether t has a short request open
-mode-edit : (c : SetUp) (s s′ : State) (t : ℕ) → ((u : ℕ) → u ≢ t → SameTask s s′ u) → stand s′ t ≡ stand s t
+mode-edit : (c : Setup) (s s′ : State) (t : ℕ) → ((u : ℕ) → u ≢ t → SameTask s s′ u) → stand s′ t ≡ stand s t
     → ((i : ℕ) → i < depth s t → kind c (request s t i) ≡ short → (k : ℕ) × (k < depth s′ t) × (kind c (request s′ t k) ≡ short))
     → ((i : ℕ) → i < depth s′ t → kind c (request s′ t i) ≡ short → (k : ℕ) × (k < depth s t) × (kind c (request s t k) ≡ short))
     → (u : ℕ) → modeOf (jobs c s′) u ≡ modeOf (jobs c s) u
@@ -35,7 +36,7 @@ mode-edit c s s′ t tasks stood to from = at-one (λ u. modeOf (jobs c s′) u 
     (mode-same c s s′ t stood (short-same c s s′ t to from)) (λ u d. mode-kept c s s′ u (tasks u d))
 
 -- ---- t asks for r, of group g
-module _ (c : SetUp) (G : Grouped c) (s s′ : State) (t r g x y : ℕ) (L : LocksBut c s x) (L′ : LocksBut c s′ y)
+module _ (c : Setup) (G : Grouped c) (s s′ : State) (t r g x y : ℕ) (L : LocksBut c s x) (L′ : LocksBut c s′ y)
     (same : (w : ℕ) → own s′ w ≡ own s w) (act : stand s t ≡ active) (r-in : r < c .resources) (g-is : groupOf c r ≡ g) where
   t-in : t < mostTasks
   t-in = pending-in c G s x t L (λ e. omega arith)
@@ -46,10 +47,10 @@ module _ (c : SetUp) (G : Grouped c) (s s′ : State) (t r g x y : ℕ) (L : Loc
   -- ---- the request is queued
   module _ (E : Queues c s s′ t r g) where
     -- short: t spins
-    pub queues-short : kind c r ≡ short → Hardens (jobs c s) (jobs c s′) t
-    queues-short k = record {
+    pub enqueues-short : kind c r ≡ short → BecomesNonPreemptable (jobs c s) (jobs c s′) t
+    enqueues-short k = record {
       runnable = mode-active c s t t-in act;
-      hard = mode-spin c s′ t t-in (omega (arith, E .stood));
+      mode = mode-spin c s′ t t-in (omega (arith, E .stood));
       others = λ u d. mode-kept c s s′ u (E .tasks u d);
       ranks = λ u. rank-edit c G s s′ x y L L′ same g (E .groups) u (λ _ z. absurd (omega (arith, kind-g)));
     }
@@ -114,26 +115,26 @@ module _ (c : SetUp) (G : Grouped c) (s s′ : State) (t r g x y : ℕ) (L : Loc
           (λ B. inl (omega (arith, raised, before .all (z .0) B, same (z .0), z .2))) (back (z .0) (z .1)))
           (after .one)
 
-      pub queues-long : Raises (jobs c s) (jobs c s′) t (holder s g)
-      queues-long =
-          let rh = rank-told c s (holder s g) h-in in
-          let rh′ = rank-told c s′ (holder s g) h-in in
-          let rt = rank-told c s t t-in in
+      pub enqueues-long : Inherits (jobs c s) (jobs c s′) t (holder s g)
+      enqueues-long =
+          let rh = rank-in-jobs c s (holder s g) h-in in
+          let rh′ = rank-in-jobs c s′ (holder s g) h-in in
+          let rt = rank-in-jobs c s t t-in in
           record {
             gone = λ R. omega (arith, R .mode, mode-sleep c s′ t t-in (omega (arith, E .stood)));
-            up = omega (arith, raised);
+            rank-falls = omega (arith, raised);
             by = ⊎-elim (λ z. inl (omega arith)) (λ z. inr (omega arith)) raised-by;
             others = λ u d b. rank-edit c G s s′ x y L L′ same g (E .groups) u (λ l _. inr (inl ((λ z. b (sym z)), λ z. b (sym z ∙ E .holds))));
             modes = λ u d. mode-kept c s s′ u (E .tasks u d);
-            apart = told-apart c G s′ y L′;
+            apart = jobs-apart c G s′ y L′;
           }
 
   -- ---- the request is opened
   module _ (E : Opens s s′ t r g) where
-    pub opens-short : kind c r ≡ short → Hardens (jobs c s) (jobs c s′) t
+    pub opens-short : kind c r ≡ short → BecomesNonPreemptable (jobs c s) (jobs c s′) t
     opens-short k = record {
       runnable = mode-active c s t t-in act;
-      hard = mode-hard c s′ t t-in (E .stood ∙ act) (short-true c s′ t (depth s t) (omega (arith, E .deep)) (rw (E .new) k));
+      mode = mode-hard c s′ t t-in (E .stood ∙ act) (short-true c s′ t (depth s t) (omega (arith, E .deep)) (rw (E .new) k));
       others = λ u d. mode-kept c s s′ u (E .tasks u d);
       ranks = λ u. rank-edit c G s s′ x y L L′ same g (E .groups) u (λ _ z. absurd (omega (arith, kind-g)));
     }
@@ -154,7 +155,7 @@ module _ (c : SetUp) (G : Grouped c) (s s′ : State) (t r g x y : ℕ) (L : Loc
     }
 
 -- ---- a request is closed
-module _ (c : SetUp) (G : Grouped c) (s s′ : State) (t g h x y : ℕ) (L : LocksBut c s x) (E : Closes s s′ t g h) (L′ : LocksBut c s′ y)
+module _ (c : Setup) (G : Grouped c) (s s′ : State) (t g h x y : ℕ) (L : LocksBut c s x) (E : Closes s s′ t g h) (L′ : LocksBut c s′ y)
     (same : (w : ℕ) → own s′ w ≡ own s w) (act : stand s t ≡ active) (g-is : groupOf c (request s t (depth s′ t)) ≡ g) where
   c-in : t < mostTasks
   c-in = pending-in c G s x t L (λ e. omega arith)
@@ -181,7 +182,7 @@ module _ (c : SetUp) (G : Grouped c) (s s′ : State) (t g h x y : ℕ) (L : Loc
   }
 
   -- outermost, long: t's rank is restored
-  pub closes-long : h ≡ nobody → kind c g ≡ long → Lowers (jobs c s) (jobs c s′) t
+  pub closes-long : h ≡ nobody → kind c g ≡ long → Restores (jobs c s) (jobs c s′) t
   closes-long e k =
       let E₀ = effective-law c G s x L t (omega (arith, c-in)) in
       let E₁ = effective-law c G s′ y L′ t (omega (arith, c-in)) in
@@ -190,7 +191,7 @@ module _ (c : SetUp) (G : Grouped c) (s s′ : State) (t g h x y : ℕ) (L : Loc
       let d : B .group ≢ g = λ q. omega (arith, c-in, B .held, ap (holder s′) q, E .holds) in
       omega (arith, same (z .0), z .2, E₀ .all (z .0) (behind-before c s s′ t (z .0) B (E .groups _ d)))) (E₁ .one) in
       record {
-        down = omega (arith, rank-told c s t c-in, rank-told c s′ t c-in);
+        rank-rises = omega (arith, rank-in-jobs c s t c-in, rank-in-jobs c s′ t c-in);
         others = λ u d. rank-edit c G s s′ x y L L′ same g (E .groups) u (λ l _. inr (inl ((λ z. d (sym z ∙ c-held .1)), λ z. omega (arith, E .holds))));
         modes = mode-edit c s s′ t (E .tasks) (E .stood)
             (λ i l z. elim (decLt i (depth s′ t)) [
@@ -198,29 +199,29 @@ module _ (c : SetUp) (G : Grouped c) (s s′ : State) (t g h x y : ℕ) (L : Loc
               | no m ↦ absurd (let i-is : i ≡ depth s′ t = omega (arith, E .deep) in omega (arith, c-kind, ap (λ (n : ℕ). kind c (request s t n)) i-is))
             ])
             (λ i l z. (i, omega (arith, E .deep), rw (E .old i l) at z));
-        apart = told-apart c G s′ y L′;
+        apart = jobs-apart c G s′ y L′;
       }
 
   -- outermost, short: t is preemptable
-  pub closes-short : h ≡ nobody → kind c g ≡ short → ((k : ℕ) → k < depth s′ t → groupOf c (request s t k) ≢ g) → Softens (jobs c s) (jobs c s′) t
+  pub closes-short : h ≡ nobody → kind c g ≡ short → ((k : ℕ) → k < depth s′ t → groupOf c (request s t k) ≢ g) → BecomesPreemptable (jobs c s) (jobs c s′) t
   closes-short e k none = record {
     runnable = mode-active c s t c-in act;
-    soft = mode-soft c s′ t c-in (E .stood ∙ act) (short-none c s′ t (λ i l q.
+    mode = mode-soft c s′ t c-in (E .stood ∙ act) (short-none c s′ t (λ i l q.
         none i l (L .tasks t .opened .one-group i (depth s′ t) (omega (arith, E .deep)) (omega (arith, E .deep)) (ap (kind c) (sym (E .old i l)) ∙ q ∙ sym k ∙ c-kind) ∙ g-is)));
     others = λ u d. mode-kept c s s′ u (E .tasks u d);
     ranks = λ u. rank-edit c G s s′ x y L L′ same g (E .groups) u (λ _ z. absurd (omega arith));
   }
 
-pub soften-alike : (c : SetUp) (s s₁ s₂ : State) (t : ℕ) → Softens (jobs c s) (jobs c s₁) t → Alike (jobs c s₁) (jobs c s₂) → Softens (jobs c s) (jobs c s₂) t
+pub soften-alike : (c : Setup) (s s₁ s₂ : State) (t : ℕ) → BecomesPreemptable (jobs c s) (jobs c s₁) t → Alike (jobs c s₁) (jobs c s₂) → BecomesPreemptable (jobs c s) (jobs c s₂) t
 soften-alike c s s₁ s₂ t A B = record {
   runnable = A .runnable;
-  soft = B .modes t ∙ A .soft;
+  mode = B .modes t ∙ A .mode;
   others = λ u d. B .modes u ∙ A .others u d;
   ranks = λ u. B .ranks u ∙ A .ranks u;
 }
 
 -- ---- a job comes, and goes
-module _ (c : SetUp) (G : Grouped c) (s s′ : State) (t x : ℕ) (L : LocksBut c s x) (E : Stands s s′ t) (L′ : LocksBut c s′ x)
+module _ (c : Setup) (G : Grouped c) (s s′ : State) (t x : ℕ) (L : LocksBut c s x) (E : Stands s s′ t) (L′ : LocksBut c s′ x)
     (same : (w : ℕ) → w ≢ t → own s′ w ≡ own s w) (t-small : t < mostTasks) (was : stand s t ≤ active) where
   st-others : (u : ℕ) → u ≢ t → (rankOf (jobs c s′) u ≡ rankOf (jobs c s) u) × (modeOf (jobs c s′) u ≡ modeOf (jobs c s) u)
   st-others u d = (
@@ -233,20 +234,20 @@ module _ (c : SetUp) (G : Grouped c) (s s′ : State) (t x : ℕ) (L : LocksBut 
   comes-jobs e e′ = record {
     task = t-small;
     gone = λ R. omega (arith, R .mode, mode-absent c s t t-small e);
-    soft = mode-soft c s′ t t-small e′ (short-none c s′ t (λ i l. absurd (omega (arith, E .deep))));
+    mode = mode-soft c s′ t t-small e′ (short-none c s′ t (λ i l. absurd (omega (arith, E .deep))));
     others = st-others;
-    apart = told-apart c G s′ x L′;
+    apart = jobs-apart c G s′ x L′;
   }
 
   pub goes-jobs : stand s′ t ≡ absent → Leaves (jobs c s) (jobs c s′) t
   goes-jobs e′ = record {
     gone = λ R. omega (arith, R .mode, mode-absent c s′ t t-small e′);
     others = st-others;
-    apart = told-apart c G s′ x L′;
+    apart = jobs-apart c G s′ x L′;
   }
 
 -- ---- a long group is handed over: u, the first at g, is called, and what it asked for is opened
-module _ (c : SetUp) (G : Grouped c) (s₁ s₂ s₃ : State) (u r g x y z : ℕ) (L₁ : LocksBut c s₁ x) (L₂ : LocksBut c s₂ y) (L₃ : LocksBut c s₃ z)
+module _ (c : Setup) (G : Grouped c) (s₁ s₂ s₃ : State) (u r g x y z : ℕ) (L₁ : LocksBut c s₁ x) (L₂ : LocksBut c s₂ y) (L₃ : LocksBut c s₃ z)
     (C : Calls s₁ s₂ u g) (O : Opens s₂ s₃ u r g) (same₂ : (w : ℕ) → own s₂ w ≡ own s₁ w) (same₃ : (w : ℕ) → own s₃ w ≡ own s₂ w)
     (first : waiter s₁ g 0 ≡ u) (r-is : asked s₁ u ≡ r) (free : holder s₁ g ≡ nobody) where
   p-waits : (spinning ≤ stand s₁ u) × (groupOf c (asked s₁ u) ≡ g)
@@ -267,7 +268,7 @@ module _ (c : SetUp) (G : Grouped c) (s₁ s₂ s₃ : State) (u r g x y z : ℕ
       record {
         task = u-in;
         gone = λ R. omega (arith, R .mode, mode-sleep c s₁ u u-in asleep);
-        soft = mode-soft c s₃ u u-in (O .stood ∙ C .stood) (short-none c s₃ u (λ i l q.
+        mode = mode-soft c s₃ u u-in (O .stood ∙ C .stood) (short-none c s₃ u (λ i l q.
             let i-is : i ≡ depth s₂ u = omega (arith, O .deep, C .deep, W .asleep asleep) in
             omega (arith, p-kind, ap (kind c) (O .new), ap (λ (n : ℕ). kind c (request s₃ u n)) i-is)));
         others = λ v d. (
@@ -275,7 +276,7 @@ module _ (c : SetUp) (G : Grouped c) (s₁ s₂ s₃ : State) (u r g x y z : ℕ
               ∙ rank-edit c G s₁ s₂ x y L₁ L₂ same₂ g (C .groups) v (λ l _. inr (inl ((λ q. omega arith), λ q. omega (arith, C .holds)))),
           mode-kept c s₂ s₃ v (O .tasks v d) ∙ mode-kept c s₁ s₂ v (C .tasks v d),
         );
-        apart = told-apart c G s₃ z L₃;
+        apart = jobs-apart c G s₃ z L₃;
       }
 
   -- short: u spun and holds now; nothing changes

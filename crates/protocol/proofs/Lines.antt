@@ -15,9 +15,10 @@ use Rattle.queue.specs.Waiting.{waiter as queued, appended, withoutFirst}
 use Rattle.queue.specs.declared.Queue.{Queue}
 use Rattle.queue.proofs.Laws.{append-len, append-place, without-len, without-place}
 use Rattle.setups.specs.Naming.{groupOf}
-use Rattle.input.specs.declared.SetUp.{SetUp}
-use Rattle.protocol.specs.Words.{nobody, group, asked, len, waiter}
-use Rattle.protocol.specs.Locks.{withGroup, openOfKind, opens, queues, closes, frees, nextAt, calls, passes}
+use Rattle.input.specs.declared.Setup.{Setup}
+use Rattle.numbers.specs.Limits.{nobody}
+use Rattle.protocol.specs.Words.{group, asked, len, waiter}
+use Rattle.protocol.specs.Locks.{withGroup, openOfKind, opens, enqueues, closes, frees, nextAt, dequeues, passes}
 use Rattle.protocol.specs.Edited.{requestEdit, completeEdit}
 use Rattle.protocol.specs.declared.Group.{Group}
 use Rattle.protocol.specs.declared.State.{State}
@@ -77,49 +78,49 @@ module _ (s : State) (g : ℕ) (in-groups : g < length (s .groups)) where
   frees-lines t = lines-held nobody
 
   module _ (y : Tidy (group s g .queue)) where
-    queues-lines : (c : SetUp) (t r a : ℕ) → Lines s (queues c t r g s) a
-    unfolding queues len waiter
-    queues-lines c t r =
+    enqueues-lines : (c : Setup) (t r a : ℕ) → Lines s (enqueues c t r g s) a
+    unfolding enqueues len waiter
+    enqueues-lines c t r =
         let q = group s g .queue in
         let e = with-queue (group s g .holder) (appended q t) in
-        at-one (Lines s (queues c t r g s)) g
+        at-one (Lines s (enqueues c t r g s)) g
         (λ i l. let k = append-keeps q t i y l in (omega (arith, k .0, ap (λ (x : Queue). x .len) e), ap (λ (x : Queue). queued x i) e ∙ k .1))
         (lines-off (group s g .holder) (appended q t))
 
-    calls-ups : Ups s (calls g s) g
-    unfolding calls len waiter
-    calls-ups i l =
+    dequeues-ups : Ups s (dequeues g s) g
+    unfolding dequeues len waiter
+    dequeues-ups i l =
         let q = group s g .queue in
         let e = with-queue (group s g .holder) (withoutFirst q) in
         (omega (arith, l, ap (λ (x : Queue). x .len) e, without-len q), ap (λ (x : Queue). queued x i) e ∙ without-place q i y)
 
-  calls-lines : (a : ℕ) → a ≢ g → Lines s (calls g s) a
-  unfolding calls len waiter
-  calls-lines = lines-off (group s g .holder) (withoutFirst (group s g .queue))
+  dequeues-lines : (a : ℕ) → a ≢ g → Lines s (dequeues g s) a
+  unfolding dequeues len waiter
+  dequeues-lines = lines-off (group s g .holder) (withoutFirst (group s g .queue))
 
-  pub calls-in : g < length (calls g s .groups)
-  unfolding calls
-  calls-in = lt-length-set (s .groups) g _ in-groups
+  pub dequeues-in : g < length (dequeues g s .groups)
+  unfolding dequeues
+  dequeues-in = lt-length-set (s .groups) g _ in-groups
 
 module _ (s : State) (g : ℕ) (in-groups : g < length (s .groups)) where
   -- the next of g becomes holder
-  passes-then : (a : ℕ) → Lines (calls g s) (passes g s) a
+  passes-then : (a : ℕ) → Lines (dequeues g s) (passes g s) a
   unfolding passes
-  passes-then = opens-lines (calls g s) g (calls-in s g in-groups) (nextAt s g) (asked s (nextAt s g))
+  passes-then = opens-lines (dequeues g s) g (dequeues-in s g in-groups) (nextAt s g) (asked s (nextAt s g))
 
   passes-ups : Tidy (group s g .queue) → Ups s (passes g s) g
-  passes-ups y = up-lines s (calls g s) (passes g s) g (calls-ups s g in-groups y) (passes-then g)
+  passes-ups y = up-lines s (dequeues g s) (passes g s) g (dequeues-ups s g in-groups y) (passes-then g)
 
   passes-lines : (a : ℕ) → a ≢ g → Lines s (passes g s) a
-  passes-lines a d = lines-then s (calls g s) (passes g s) a (calls-lines s g in-groups a d) (passes-then a)
+  passes-lines a d = lines-then s (dequeues g s) (passes g s) a (dequeues-lines s g in-groups a d) (passes-then a)
 
-module _ (c : SetUp) (t r : ℕ) (s : State) (h : groupOf c r < length (s .groups)) (tidy : (a : ℕ) → Tidy (group s a .queue)) where
+module _ (c : Setup) (t r : ℕ) (s : State) (h : groupOf c r < length (s .groups)) (tidy : (a : ℕ) → Tidy (group s a .queue)) where
   abbrev g : ℕ
   g = groupOf c r
 
   -- ---- a request moves nobody
   pub request-lines : (a : ℕ) → Lines s (requestEdit c t r s) a
-  request-lines a = request-edit-by c t r s (λ x. Lines s x a) (λ _. opens-lines s g h t r a) (λ _ _. queues-lines s g h (tidy g) c t r a)
+  request-lines a = request-edit-by c t r s (λ x. Lines s x a) (λ _. opens-lines s g h t r a) (λ _ _. enqueues-lines s g h (tidy g) c t r a)
 
   -- ---- a completion
   pub inner-lines : openOfKind c (closes t s) t r ≡ true → (a : ℕ) → Lines s (completeEdit c t r s) a

@@ -4,8 +4,8 @@ use mathlib.Core.Path.{_≡_, refl}
 use mathlib.Core.Bool.{true}
 use mathlib.Core.Logic.{_≢_, _↔_}
 use native.Mathlib.Omega.{arith}
-use Rattle.search.specs.Numbered.{standsAt, FirstAt}
-use Rattle.search.proofs.Refusals.{none-iff, number-iff}
+use Rattle.numbers.specs.Numbered.{standsAt, FirstAt}
+use Rattle.numbers.proofs.Refusals.{none-iff, number-iff}
 use Rattle.input.specs.declared.Event.{Event}
 use Rattle.protocol.specs.Refusals.{eventRows, judge}
 use Rattle.protocol.specs.Numbers.{EventNumbers}

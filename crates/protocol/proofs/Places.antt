@@ -11,9 +11,11 @@ use Rattle.queue.specs.Waiting.{appended, withoutFirst}
 use Rattle.queue.specs.declared.Queue.{Queue}
 use Rattle.input.specs.Words.{kind}
 use Rattle.setups.specs.Naming.{groupOf}
-use Rattle.input.specs.declared.SetUp.{SetUp}
-use Rattle.protocol.specs.Words.{nobody, group, asked, holder, len, waiter}
-use Rattle.protocol.specs.Locks.{standingAs, opening, onTask, withGroup, lockOf, openOfKind, opens, queues, closes, frees, nextAt, calls, passes}
+use Rattle.input.specs.declared.Setup.{Setup}
+use Rattle.numbers.specs.Limits.{nobody}
+use Rattle.protocol.specs.Words.{group, asked, holder, len, waiter}
+use Rattle.protocol.specs.Records.{withStanding}
+use Rattle.protocol.specs.Locks.{opening, onTask, withGroup, lockOf, openOfKind, opens, enqueues, closes, frees, nextAt, dequeues, passes}
 use Rattle.protocol.specs.Edited.{requestEdit, completeEdit}
 use Rattle.protocol.specs.Demands.{Before}
 use Rattle.protocol.specs.declared.Standing.the-variants.{Active, Waiting}
@@ -24,7 +26,7 @@ use Rattle.protocol.proofs.Carry.{at-one}
 use Rattle.protocol.proofs.Views.{group-at, group-off}
 use Rattle.protocol.proofs.Steps.{kind-some}
 use Rattle.protocol.proofs.Branches.{request-edit-by, complete-edit-by}
-use Rattle.protocol.proofs.Lines.{calls-in, frees-lines, freed-in, request-lines, inner-lines, outer-lines, outer-ups}
+use Rattle.protocol.proofs.Lines.{dequeues-in, frees-lines, freed-in, request-lines, inner-lines, outer-lines, outer-ups}
 
 -- ---- who holds
 module _ (s : State) (g h : ℕ) (q : Queue) where
@@ -45,25 +47,25 @@ module _ (s : State) (g : ℕ) (in-groups : g < length (s .groups)) where
   unfolding opens holder
   opens-off t r = held-off (onTask t (opening r) s) g t (group s g .queue)
 
-  queues-held : (c : SetUp) (t r a : ℕ) → holder (queues c t r g s) a ≡ holder s a
-  unfolding queues holder
-  queues-held c t r =
-      let s₁ = onTask t (standingAs (Waiting (lockOf (kind c r) r))) s in
+  enqueues-held : (c : Setup) (t r a : ℕ) → holder (enqueues c t r g s) a ≡ holder s a
+  unfolding enqueues holder
+  enqueues-held c t r =
+      let s₁ = onTask t (withStanding (Waiting (lockOf (kind c r) r))) s in
       let q = appended (group s g .queue) t in
-      at-one (λ a. holder (queues c t r g s) a ≡ holder s a) g (held-at s₁ g (group s g .holder) q in-groups) (held-off s₁ g (group s g .holder) q)
+      at-one (λ a. holder (enqueues c t r g s) a ≡ holder s a) g (held-at s₁ g (group s g .holder) q in-groups) (held-off s₁ g (group s g .holder) q)
 
 module _ (s : State) (g : ℕ) (in-groups : g < length (s .groups)) where
   passes-at : holder (passes g s) g ≡ nextAt s g
   unfolding passes
-  passes-at = opens-at (calls g s) g (calls-in s g in-groups) (nextAt s g) (asked s (nextAt s g))
+  passes-at = opens-at (dequeues g s) g (dequeues-in s g in-groups) (nextAt s g) (asked s (nextAt s g))
 
   passes-off : (a : ℕ) → a ≢ g → holder (passes g s) a ≡ holder s a
-  unfolding passes calls holder
+  unfolding passes dequeues holder
   passes-off a d =
-      opens-off (calls g s) g (calls-in s g in-groups) (nextAt s g) (asked s (nextAt s g)) a d
-      ∙ held-off (onTask (nextAt s g) (standingAs Active) s) g (group s g .holder) (withoutFirst (group s g .queue)) a d
+      opens-off (dequeues g s) g (dequeues-in s g in-groups) (nextAt s g) (asked s (nextAt s g)) a d
+      ∙ held-off (onTask (nextAt s g) (withStanding Active) s) g (group s g .holder) (withoutFirst (group s g .queue)) a d
 
-module _ (c : SetUp) (t r : ℕ) (s : State) (h : groupOf c r < length (s .groups)) (tidy : (a : ℕ) → Tidy (group s a .queue)) where
+module _ (c : Setup) (t r : ℕ) (s : State) (h : groupOf c r < length (s .groups)) (tidy : (a : ℕ) → Tidy (group s a .queue)) where
   abbrev g : ℕ
   g = groupOf c r
 
@@ -78,7 +80,7 @@ module _ (c : SetUp) (t r : ℕ) (s : State) (h : groupOf c r < length (s .group
         let mine : holder s g ≡ t = ap (holder s) (sym (A .within (i .0) (i .1) (i .2))) ∙ S .locks .tasks t .opened .held (i .0) (i .1) .1 in
         at-one (λ a. holder (opens t r g s) a ≡ holder s a) g (opens-at s g h t r ∙ sym mine) (opens-off s g h t r) a)
         (λ z. opens-off s g h t r a (λ y. d (ap (holder s) y ∙ z))))
-        (λ _ _. queues-held s g h c t r a)
+        (λ _ _. enqueues-held s g h c t r a)
 
     pub request-before : (a w n : ℕ) → w ≢ nobody → Before s a w n → Before (requestEdit c t r s) a w n
     request-before a w zero d e = request-held a (λ z. d (sym e ∙ z)) ∙ e

@@ -9,9 +9,11 @@ use Rattle.search.specs.Words.{_is_}
 use Rattle.queue.specs.Waiting.{appended, withoutFirst}
 use Rattle.input.specs.Words.{kind}
 use Rattle.setups.specs.Naming.{groupOf}
-use Rattle.input.specs.declared.SetUp.{SetUp}
-use Rattle.protocol.specs.Words.{nobody, absent, spinning, standingNo, group, stand, asked, len}
-use Rattle.protocol.specs.Locks.{standingAs, opening, closing, onTask, lockOf, opens, queues, closes, frees, nextAt, calls, passes}
+use Rattle.input.specs.declared.Setup.{Setup}
+use Rattle.numbers.specs.Limits.{nobody}
+use Rattle.protocol.specs.Words.{absent, spinning, standingNo, group, stand, asked, len}
+use Rattle.protocol.specs.Records.{withStanding}
+use Rattle.protocol.specs.Locks.{opening, closing, onTask, lockOf, opens, enqueues, closes, frees, nextAt, dequeues, passes}
 use Rattle.protocol.specs.Edited.{requestEdit, completeEdit}
 use Rattle.protocol.specs.declared.Standing.the-variants.{Active, Waiting}
 use Rattle.protocol.specs.declared.State.{State}
@@ -38,29 +40,29 @@ waits-here : (k r : ℕ) → (standingNo (Waiting (lockOf k r)) is absent) ≡ f
 waits-here zero r = refl
 waits-here (suc k) r = refl
 
-queues-quiet : (c : SetUp) (t r g : ℕ) (s : State) → stand s t ≢ absent → Quiet s (queues c t r g s)
-unfolding queues stand
-queues-quiet c t r g s h =
-    let f = standingAs (Waiting (lockOf (kind c r) r)) in
-    quiet-then s (onTask t f s) (queues c t r g s) (quiet-task s t f (λ x. refl) (waits-here (kind c r) r ∙ sym (ne-eqb _ _ h)))
+enqueues-quiet : (c : Setup) (t r g : ℕ) (s : State) → stand s t ≢ absent → Quiet s (enqueues c t r g s)
+unfolding enqueues stand
+enqueues-quiet c t r g s h =
+    let f = withStanding (Waiting (lockOf (kind c r) r)) in
+    quiet-then s (onTask t f s) (enqueues c t r g s) (quiet-task s t f (λ x. refl) (waits-here (kind c r) r ∙ sym (ne-eqb _ _ h)))
     (quiet-group (onTask t f s) g (group s g .holder) (appended (group s g .queue) t))
 
 passes-quiet : (g : ℕ) (s : State) → spinning ≤ stand s (nextAt s g) → Quiet s (passes g s)
-unfolding passes calls stand
+unfolding passes dequeues stand
 passes-quiet g s h =
     let u = nextAt s g in
-    let f = standingAs Active in
-    quiet-then s (calls g s) (passes g s)
-    (quiet-then s (onTask u f s) (calls g s) (quiet-task s u f (λ x. refl) (sym (ne-eqb (stand s u) absent (λ z. omega arith))))
+    let f = withStanding Active in
+    quiet-then s (dequeues g s) (passes g s)
+    (quiet-then s (onTask u f s) (dequeues g s) (quiet-task s u f (λ x. refl) (sym (ne-eqb (stand s u) absent (λ z. omega arith))))
     (quiet-group (onTask u f s) g (group s g .holder) (withoutFirst (group s g .queue))))
-    (opens-quiet u (asked s u) g (calls g s))
+    (opens-quiet u (asked s u) g (dequeues g s))
 
 -- ---- a request
-pub request-quiet : (c : SetUp) (t r : ℕ) (s : State) → stand s t ≢ absent → Quiet s (requestEdit c t r s)
-request-quiet c t r s h = request-edit-by c t r s (Quiet s) (λ _. opens-quiet t r (groupOf c r) s) (λ _ _. queues-quiet c t r (groupOf c r) s h)
+pub request-quiet : (c : Setup) (t r : ℕ) (s : State) → stand s t ≢ absent → Quiet s (requestEdit c t r s)
+request-quiet c t r s h = request-edit-by c t r s (Quiet s) (λ _. opens-quiet t r (groupOf c r) s) (λ _ _. enqueues-quiet c t r (groupOf c r) s h)
 
 -- ---- a completion
-module _ (c : SetUp) (G : Grouped c) (s : State) (S : Steady c s) (t r : ℕ) (A : Ends s t r) where
+module _ (c : Setup) (G : Grouped c) (s : State) (S : Steady c s) (t r : ℕ) (A : Ends s t r) where
   f : State
   f = frees (groupOf c r) (closes t s)
 

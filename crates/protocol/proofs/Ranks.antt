@@ -8,11 +8,12 @@ use native.Mathlib.Decide.{ℕ-discrete, decLt}
 use Rattle.search.specs.Words.{_is_}
 use Rattle.search.proofs.Firsts.{First, first-law}
 use Rattle.search.proofs.Tests.{tests, never}
-use Rattle.input.specs.Limits.{mostTasks, long}
+use Rattle.numbers.specs.Limits.{mostTasks, nobody}
+use Rattle.input.specs.Kinds.{long}
 use Rattle.input.specs.Words.{kind}
 use Rattle.setups.specs.Naming.{groupOf}
-use Rattle.input.specs.declared.SetUp.{SetUp}
-use Rattle.protocol.specs.Words.{nobody, spinning, suspended, stand, asked, deadline, depth, request, holder, len, waiter}
+use Rattle.input.specs.declared.Setup.{Setup}
+use Rattle.protocol.specs.Words.{spinning, suspended, stand, asked, deadline, depth, request, holder, len, waiter}
 use Rattle.protocol.specs.Ranks.{own, leastOf, longHeld, effective}
 use Rattle.protocol.specs.declared.State.{State}
 use Rattle.protocol.proofs.Statements.{Grouped, LocksBut, SameGroup}
@@ -51,7 +52,7 @@ unfolding own
 own-apart s t u a b e = omega arith
 
 -- w waits at a long group that u holds
-pub record Behind (c : SetUp) (s : State) (u w : ℕ) : Type 0 where
+pub record Behind (c : Setup) (s : State) (u w : ℕ) : Type 0 where
   pub group : ℕ
   pub place : ℕ
   pub is-long : kind c group ≡ long
@@ -59,12 +60,12 @@ pub record Behind (c : SetUp) (s : State) (u w : ℕ) : Type 0 where
   pub below : place < len s group
   pub there : waiter s group place ≡ w
 
-pub record Effective (c : SetUp) (s : State) (u e : ℕ) : Type 0 where
+pub record Effective (c : Setup) (s : State) (u e : ℕ) : Type 0 where
   pub low : e ≤ own s u
   pub all : (w : ℕ) → Behind c s u w → e ≤ own s w
   pub one : (e ≡ own s u) ⊎ ((w : ℕ) × Behind c s u w × (e ≡ own s w))
 
-module _ (c : SetUp) (G : Grouped c) (s : State) (x : ℕ) (L : LocksBut c s x) where
+module _ (c : Setup) (G : Grouped c) (s : State) (x : ℕ) (L : LocksBut c s x) where
   -- a held group is one of the table
   pub held-in : (g : ℕ) → holder s g ≢ nobody → (g < c .resources) × (holder s g < c .tasks)
   held-in g h =
@@ -149,17 +150,17 @@ same-back : (s s′ : State) (a : ℕ) → SameGroup s s′ a → SameGroup s′
 same-back s s′ a E = record { holds = sym (E .holds); long = sym (E .long); line = λ i. sym (E .line i) }
 
 -- who waits behind u at a group that stays waits there still, and did before
-pub behind-still : (c : SetUp) (s s′ : State) (u w : ℕ) (B : Behind c s u w) → SameGroup s s′ (B .group) → Behind c s′ u w
+pub behind-still : (c : Setup) (s s′ : State) (u w : ℕ) (B : Behind c s u w) → SameGroup s s′ (B .group) → Behind c s′ u w
 behind-still c s s′ u w B E = record { group = B .group; place = B .place; is-long = B .is-long; held = E .holds ∙ B .held; below = omega (arith, E .long, B .below); there = E .line _ ∙ B .there }
 
-pub behind-before : (c : SetUp) (s s′ : State) (u w : ℕ) (B : Behind c s′ u w) → SameGroup s s′ (B .group) → Behind c s u w
+pub behind-before : (c : Setup) (s s′ : State) (u w : ℕ) (B : Behind c s′ u w) → SameGroup s s′ (B .group) → Behind c s u w
 behind-before c s s′ u w B E = behind-still c s′ s u w B (same-back s s′ _ E)
 
 abbrev pub Keeps : State → State → ℕ → ℕ → Type 0
 Keeps s s′ u g = SameGroup s s′ g ⊎ (((holder s g ≢ u) × (holder s′ g ≢ u)) ⊎ ((len s g ≡ 0) × (len s′ g ≡ 0)))
 
 -- u's rank is the same where the same jobs wait behind it
-module _ (c : SetUp) (G : Grouped c) (s s′ : State) (x y : ℕ) (L : LocksBut c s x) (L′ : LocksBut c s′ y) where
+module _ (c : Setup) (G : Grouped c) (s s′ : State) (x y : ℕ) (L : LocksBut c s x) (L′ : LocksBut c s′ y) where
   rank-by : (u : ℕ) → u ≢ nobody → own s′ u ≡ own s u → ((w : ℕ) → Behind c s u w → own s′ w ≡ own s w)
       → ((w : ℕ) → Behind c s u w → Behind c s′ u w) → ((w : ℕ) → Behind c s′ u w → Behind c s u w) → effective c s′ u ≡ effective c s u
   rank-by u u-in mine theirs to from =

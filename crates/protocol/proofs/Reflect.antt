@@ -12,11 +12,12 @@ use Rattle.queue.specs.Tidy.{Tidy}
 use Rattle.queue.specs.Waiting.{placeOf}
 use Rattle.queue.proofs.Laws.{tidy-test, place-of-some, place-of-waiter}
 use Rattle.scheduler.specs.Placed.{Sized as SizedProcessors}
-use Rattle.placement.proofs.Testing.{placed-of-test, test-of-placed}
-use Rattle.input.specs.Limits.{mostTasks, mostResources}
+use Rattle.scheduler.proofs.Testing.{placed-of-test, test-of-placed}
+use Rattle.numbers.specs.Limits.{mostTasks, mostResources, mostRequests, nobody}
 use Rattle.setups.specs.Naming.{groupOf}
-use Rattle.input.specs.declared.SetUp.{SetUp}
-use Rattle.protocol.specs.Words.{mostRequests, nobody, absent, spinning, noTask, noGroup, task, group, stand, asked, depth, request, len, waiter}
+use Rattle.input.specs.declared.Setup.{Setup}
+use Rattle.protocol.specs.Words.{absent, spinning, task, group, stand, asked, depth, request, len, waiter}
+use Rattle.protocol.specs.Records.{noTask, noGroup}
 use Rattle.protocol.specs.Ranks.{jobs}
 use Rattle.protocol.specs.Sound.{clockSound, timesSound, requestsSound, waitingSound, groupSound, emptySound, sound}
 use Rattle.protocol.specs.declared.State.{State}
@@ -30,7 +31,7 @@ pub record Shaped (s : State) : Type 0 where
   pub queues : (g : ℕ) → length (group s g .queue .tasks) ≡ capacity
 
 -- ---- from the test to the statements
-module _ (c : SetUp) (s : State) (Z : Shaped s) where
+module _ (c : Setup) (s : State) (Z : Shaped s) where
   -- past the arrays there is nothing
   by-task : (P : ℕ → Type 0) → ((t : ℕ) → t < mostTasks → P t) → ((t : ℕ) → task s t ≡ noTask → P t) → (t : ℕ) → P t
   by-task P inside past t = elim (decLt t mostTasks) [ yes y ↦ inside t y | no y ↦ past t (List·getD-eq-default (s .tasks) noTask {n = t} (omega (arith, Z .sized .tasks))) ]
@@ -47,7 +48,7 @@ module _ (c : SetUp) (s : State) (Z : Shaped s) where
         record {
           arrived = h .0 .0 .0;
           pending = h .0 .0 .1;
-          idle = h .0 .1;
+          undated = h .0 .1;
           totals = h .1;
           beyond = λ b. let z = m .1 b in (not-true _ (z .0 .0 .1), z .0 .1, z .1);
         }
@@ -145,10 +146,10 @@ sound-of-test s Z e =
     }
 
 -- ---- and back
-module _ (c : SetUp) (s : State) where
+module _ (c : Setup) (s : State) where
   test-of-times : (t : ℕ) → TimesOk c (s .clock) s t → timesSound c s t ≡ true
   unfolding timesSound
-  test-of-times t K = simp tests (((K .arrived, K .pending), K .idle), K .totals)
+  test-of-times t K = simp tests (((K .arrived, K .pending), K .undated), K .totals)
 
   test-of-requests : (t : ℕ) → TaskOk c s t → requestsSound c s t ≡ true
   unfolding requestsSound

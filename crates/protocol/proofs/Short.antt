@@ -13,19 +13,20 @@ use Rattle.search.specs.Words.{if_then_else_, _is_}
 use Rattle.search.proofs.Tests.{tests, never, anyBelow-same}
 use Rattle.queue.specs.Tidy.{Tidy}
 use Rattle.processors.specs.declared.Processors.{Processors}
-use Rattle.input.specs.Limits.{mostTasks, mostResources, short}
+use Rattle.numbers.specs.Limits.{mostTasks, mostResources, nobody}
+use Rattle.input.specs.Kinds.{short, request as asking, completion}
 use Rattle.input.specs.Words.{kind}
 use Rattle.setups.specs.Naming.{groupOf}
-use Rattle.input.specs.Kinds.{request as asking, completion}
-use Rattle.input.specs.declared.SetUp.{SetUp}
+use Rattle.input.specs.declared.Setup.{Setup}
 use Rattle.input.specs.declared.Event.{Event}
 use Rattle.setups.proofs.Accepted.{accepted-iff}
-use Rattle.protocol.specs.Words.{nobody, spinning, group, stand, asked, depth, holder, len}
+use Rattle.protocol.specs.Words.{spinning, group, stand, asked, depth, holder, len}
 use Rattle.protocol.specs.Ranks.{shortOpen}
 use Rattle.protocol.specs.Refusals.{stepOf, judge}
 use Rattle.protocol.specs.Locks.{openOfKind, closes}
 use Rattle.protocol.specs.Edited.{requestEdit, completeEdit, edited}
-use Rattle.protocol.specs.Events.{withProcessors, Prefers, charged, Move, moved, stepBy, runBy}
+use Rattle.protocol.specs.Records.{withProcessors}
+use Rattle.protocol.specs.Events.{Prefers, charged, Move, moved, stepBy, runBy}
 use Rattle.protocol.specs.Demands.{Before, handsOver, completions, ShortQueue}
 use Rattle.protocol.specs.declared.State.{State}
 use Rattle.protocol.proofs.Statements.{Grouped, Steady, Sound, Asks}
@@ -156,22 +157,22 @@ run-place (m ∷ ms) s g w n Q some x =
 
 -- ---- a short request with no other short one open
 -- how many are before t, fewer than m; where there are some, t spins for r
-record Found (c : SetUp) (m t r : ℕ) (s : State) : Type 0 where
+record Found (c : Setup) (m t r : ℕ) (s : State) : Type 0 where
   found : ℕ
   few : found < m
   place : Before s (groupOf c r) t found
   spins : found ≢ 0 → (stand s t ≡ spinning) × (asked s t ≡ r)
 
 -- of a state with the same tasks and groups
-found-with : (c : SetUp) (m t r : ℕ) (s : State) (p : Processors) → Found c m t r s → Found c m t r (withProcessors p s)
+found-with : (c : Setup) (m t r : ℕ) (s : State) (p : Processors) → Found c m t r s → Found c m t r (withProcessors p s)
 unfolding stand asked
 found-with c m t r s p F = record { found = F .found; few = F .few; place = same-before s _ (with-group c s p) _ t (F .found) (F .place); spins = F .spins }
 
 -- if fewer than m wait at a held group
-abbrev Finds : SetUp → ℕ → ℕ → ℕ → State → Type 0
+abbrev Finds : Setup → ℕ → ℕ → ℕ → State → Type 0
 Finds c m t r s = (holder s (groupOf c r) ≢ nobody → len s (groupOf c r) < m) → Found c m t r s
 
-module _ (c : SetUp) (G : Grouped c) (s : State) (S : Steady c s) (t r : ℕ) (A : Asks c s t r) (is-short : kind c r ≡ short) (outer : openOfKind c s t r ≡ false) where
+module _ (c : Setup) (G : Grouped c) (s : State) (S : Steady c s) (t r : ℕ) (A : Asks c s t r) (is-short : kind c r ≡ short) (outer : openOfKind c s t r ≡ false) where
   asks-found : (m : ℕ) → 0 < m → Finds c m t r (requestEdit c t r s)
   asks-found m some = request-edit-by c t r s (Finds c m t r)
       (λ _ few.
@@ -186,7 +187,7 @@ module _ (c : SetUp) (G : Grouped c) (s : State) (S : Steady c s) (t r : ℕ) (A
 few-of : (s : State) → Sound s → (g : ℕ) → kind (s .setup) g ≡ short → holder s g ≢ nobody → len s g < s .setup .processors
 few-of s Q g k busy = omega (arith, few-at-short (s .setup) (accepted-grouped (s .setup) (Q .setup)) s (Q .steady) (sound-served s Q) g k busy, Q .count)
 
-short-outer : (c : SetUp) (s : State) (t r : ℕ) → kind c r ≡ short → shortOpen c s t ≡ false → openOfKind c s t r ≡ false
+short-outer : (c : Setup) (s : State) (t r : ℕ) → kind c r ≡ short → shortOpen c s t ≡ false → openOfKind c s t r ≡ false
 unfolding openOfKind shortOpen
 short-outer c s t r k h = rw k h
 
@@ -211,7 +212,7 @@ module _ (s : State) (pick : Prefers) (e : Event) (Q : Sound s) (ok : judge s e 
       (short-same c s s₁ t (λ i l q. (i, omega (arith, same .deep), ap (kind c) (same .requested i) ∙ q)) (λ i l q. (i, omega (arith, same .deep), ap (kind c) (sym (same .requested i)) ∙ q)) ∙ none))
       m (accepted-iff c .0 (Q .setup) .processors .0))
       (λ y. absurd (omega arith)) (λ y. absurd (omega arith)) few))
-      (λ busy. omega (arith, few-of s′ (step-sound-by pick s e Q) (groupOf c r) (ap (λ (x : SetUp). kind x (groupOf c r)) kept ∙ short-group) busy, ap (λ (x : SetUp). x .processors) kept))
+      (λ busy. omega (arith, few-of s′ (step-sound-by pick s e Q) (groupOf c r) (ap (λ (x : Setup). kind x (groupOf c r)) kept ∙ short-group) busy, ap (λ (x : Setup). x .processors) kept))
 
   pub short-queue : ShortQueue s pick e (s .setup .processors)
   short-queue =

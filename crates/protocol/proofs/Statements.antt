@@ -6,21 +6,22 @@ use mathlib.Core.Bool.{true, false}
 use mathlib.Core.Logic.{_≢_}
 use lib.ListN.{length}
 use Rattle.queue.specs.Tidy.{Tidy}
-use Rattle.processors.specs.Limits.{processors}
+use Rattle.numbers.specs.Limits.{mostProcessors, mostTasks, mostResources, mostRequests, nobody}
 use Rattle.processors.specs.Words.{runOf}
 use Rattle.scheduler.specs.Placed.{Placed}
-use Rattle.input.specs.Limits.{mostTasks, mostResources, long}
+use Rattle.input.specs.Kinds.{long}
 use Rattle.input.specs.Words.{period, kind}
-use Rattle.setups.specs.Refusals.{setUpRefusal}
+use Rattle.setups.specs.Refusals.{setupRefusal}
 use Rattle.setups.specs.Naming.{groupOf}
 use Rattle.setups.specs.Clearing.{isClear}
-use Rattle.input.specs.declared.SetUp.{SetUp}
-use Rattle.protocol.specs.Words.{mostRequests, totalCount, nobody, lastClock, sum, absent, active, spinning, suspended, task, group, stand, asked, deadline, depth, request, holder, len, waiter}
+use Rattle.input.specs.declared.Setup.{Setup}
+use Rattle.protocol.specs.Records.{totalCount}
+use Rattle.protocol.specs.Words.{lastClock, sum, absent, active, spinning, suspended, task, group, stand, asked, deadline, depth, request, holder, len, waiter}
 use Rattle.protocol.specs.Ranks.{jobs}
 use Rattle.protocol.specs.declared.State.{State}
 
 -- ---- the set-up: what an accepted set-up's groups are
-pub record Grouped (c : SetUp) : Type 0 where
+pub record Grouped (c : Setup) : Type 0 where
   pub few-tasks : c .tasks ≤ mostTasks
   pub few-resources : c .resources ≤ mostResources
   pub kinds : (r : ℕ) → r < c .resources → kind c r ≤ long
@@ -28,10 +29,10 @@ pub record Grouped (c : SetUp) : Type 0 where
   pub alike : (r : ℕ) → r < c .resources → kind c (groupOf c r) ≡ kind c r
 
 -- ---- times and totals, over a start and a clock
-pub record TimesOk (c : SetUp) (now : ℕ) (s : State) (t : ℕ) : Type 0 where
+pub record TimesOk (c : Setup) (now : ℕ) (s : State) (t : ℕ) : Type 0 where
   pub arrived : task s t .arrived ≡ true → (c .start ≤ task s t .last) × (task s t .last ≤ now)
   pub pending : stand s t ≢ absent → (task s t .arrived ≡ true) × (deadline s t ≡ task s t .last + period c t)
-  pub idle : stand s t ≡ absent → deadline s t ≡ 0
+  pub undated : stand s t ≡ absent → deadline s t ≡ 0
   pub totals : sum (task s t .totals) ≤ now - c .start
   pub beyond : c .tasks ≤ t → (task s t .arrived ≡ false) × (task s t .last ≡ 0) × (sum (task s t .totals) ≡ 0)
 
@@ -42,7 +43,7 @@ pub record Times (s : State) : Type 0 where
 
 -- ---- locks
 -- a job that waits, and what it asked for
-pub record Waits (c : SetUp) (s : State) (t : ℕ) : Type 0 where
+pub record Waits (c : Setup) (s : State) (t : ℕ) : Type 0 where
   pub inside : asked s t < c .resources
   pub kinds : stand s t ≡ spinning + kind c (asked s t)
   pub place : (i : ℕ) × (i < len s (groupOf c (asked s t))) × (waiter s (groupOf c (asked s t)) i ≡ t)
@@ -51,32 +52,32 @@ pub record Waits (c : SetUp) (s : State) (t : ℕ) : Type 0 where
   pub room : depth s t < mostRequests
 
 -- a job's open requests
-pub record OpenOk (c : SetUp) (s : State) (t : ℕ) : Type 0 where
+pub record OpenOk (c : Setup) (s : State) (t : ℕ) : Type 0 where
   pub few : depth s t ≤ mostRequests
   pub held : (i : ℕ) → i < depth s t → (request s t i < c .resources) × (holder s (groupOf c (request s t i)) ≡ t)
   pub once : (i k : ℕ) → i < depth s t → k < depth s t → request s t i ≡ request s t k → i ≡ k
   pub longs-first : (i k : ℕ) → k < i → i < depth s t → kind c (request s t i) ≡ long → kind c (request s t k) ≡ long
   pub one-group : (i k : ℕ) → i < depth s t → k < depth s t → kind c (request s t i) ≡ kind c (request s t k) → groupOf c (request s t i) ≡ groupOf c (request s t k)
 
-pub record TaskOk (c : SetUp) (s : State) (t : ℕ) : Type 0 where
+pub record TaskOk (c : Setup) (s : State) (t : ℕ) : Type 0 where
   pub opened : OpenOk c s t
   pub none : stand s t ≡ absent → depth s t ≡ 0
   pub inside : stand s t ≢ absent → t < c .tasks
   pub waits : spinning ≤ stand s t → Waits c s t
 
 -- x is a group that may have a queue and no holder, inside an event
-pub record GroupOk (c : SetUp) (s : State) (x g : ℕ) : Type 0 where
+pub record GroupOk (c : Setup) (s : State) (x g : ℕ) : Type 0 where
   pub held : holder s g ≢ nobody → (i : ℕ) × (i < depth s (holder s g)) × (groupOf c (request s (holder s g) i) ≡ g)
   pub queued : (i : ℕ) → i < len s g → (spinning ≤ stand s (waiter s g i)) × (groupOf c (asked s (waiter s g i)) ≡ g)
   pub once : (i k : ℕ) → i < len s g → k < len s g → waiter s g i ≡ waiter s g k → i ≡ k
   pub only-held : g ≢ x → holder s g ≡ nobody → len s g ≡ 0
 
-pub record LocksBut (c : SetUp) (s : State) (x : ℕ) : Type 0 where
+pub record LocksBut (c : Setup) (s : State) (x : ℕ) : Type 0 where
   pub tasks : (t : ℕ) → TaskOk c s t
   pub groups : (g : ℕ) → GroupOk c s x g
 
 -- no group is numbered 255
-abbrev pub Locks : SetUp → State → Type 0
+abbrev pub Locks : Setup → State → Type 0
 Locks c s = LocksBut c s nobody
 
 -- the arrays behind the numbers: their lengths, which the types know and no test asks for
@@ -92,13 +93,13 @@ pub record Blank (s : State) : Type 0 where
   pub queues : (g : ℕ) → Tidy (group s g .queue)
 
 -- ---- what holds of tasks and groups, whatever the scheduler
-pub record Steady (c : SetUp) (s : State) : Type 0 where
+pub record Steady (c : Setup) (s : State) : Type 0 where
   pub sized : Sized s
   pub blank : Blank s
   pub locks : Locks c s
 
 pub record Sound (s : State) : Type 0 where
-  pub setup : setUpRefusal (s .setup) ≡ 0
+  pub setup : setupRefusal (s .setup) ≡ 0
   pub clean : isClear (s .setup) ≡ true
   pub count : s .processors .count ≡ s .setup .processors
   pub times : Times s
@@ -107,11 +108,11 @@ pub record Sound (s : State) : Type 0 where
 
 -- ---- what an accepted event has shown: t runs, and is not spinning (18 to 20)
 pub record Acts (s : State) (t : ℕ) : Type 0 where
-  pub on : runOf (s .processors) t < processors
+  pub on : runOf (s .processors) t < mostProcessors
   pub act : stand s t ≡ active
 
 -- and may ask for r (12, 22 to 24)
-pub record Asks (c : SetUp) (s : State) (t r : ℕ) : Type 0 where
+pub record Asks (c : Setup) (s : State) (t r : ℕ) : Type 0 where
   pub acts : Acts s t
   pub inside : r < c .resources
   pub new : (i : ℕ) → i < depth s t → request s t i ≢ r
@@ -151,7 +152,7 @@ pub record Opens (s s′ : State) (t r g : ℕ) : Type 0 where
   pub line : (i : ℕ) → waiter s′ g i ≡ waiter s g i
 
 -- t waits for r, last at g
-pub record Queues (c : SetUp) (s s′ : State) (t r g : ℕ) : Type 0 where
+pub record Queues (c : Setup) (s s′ : State) (t r g : ℕ) : Type 0 where
   pub tasks : (u : ℕ) → u ≢ t → SameTask s s′ u
   pub groups : (a : ℕ) → a ≢ g → SameGroup s s′ a
   pub stood : stand s′ t ≡ spinning + kind c r

@@ -9,11 +9,12 @@ use lib.ListN.{length, getD}
 use lib.Seq.{set-out}
 use Rattle.input.specs.Words.{kind}
 use Rattle.setups.specs.Naming.{groupOf}
-use Rattle.input.specs.declared.SetUp.{SetUp}
+use Rattle.input.specs.declared.Setup.{Setup}
 use Rattle.input.specs.declared.Event.{Event}
-use Rattle.protocol.specs.Words.{active, spinning, noTask, standingNo, askedOf, task, stand, asked}
+use Rattle.protocol.specs.Words.{active, spinning, standingNo, askedOf, task, stand, asked}
+use Rattle.protocol.specs.Records.{noTask, withStanding}
 use Rattle.protocol.specs.Refusals.{stepOf, judge}
-use Rattle.protocol.specs.Locks.{standingAs, opening, closing, arriving, departing, onTask, lockOf, opens, queues, closes, frees, nextAt, calls, passes}
+use Rattle.protocol.specs.Locks.{opening, closing, arriving, departing, onTask, lockOf, opens, enqueues, closes, frees, nextAt, dequeues, passes}
 use Rattle.protocol.specs.Edited.{requestEdit, completeEdit, edited}
 use Rattle.protocol.specs.Events.{charged}
 use Rattle.protocol.specs.declared.Standing.the-variants.{Active, Waiting}
@@ -61,25 +62,25 @@ module _ (s : State) (g w : ℕ) where
   unfolding frees closes stand asked
   freed-stays t = stays-task s t closing (inr refl) w
 
-  queues-stays : (c : SetUp) (t r : ℕ) → w ≢ t → Stays s (queues c t r g s) w
-  unfolding queues stand asked
-  queues-stays c t r d h = let E = same-task s (queues c t r g s) w (task-off s t (standingAs (Waiting (lockOf (kind c r) r))) w d) in (E .stood, E .wants)
+  enqueues-stays : (c : Setup) (t r : ℕ) → w ≢ t → Stays s (enqueues c t r g s) w
+  unfolding enqueues stand asked
+  enqueues-stays c t r d h = let E = same-task s (enqueues c t r g s) w (task-off s t (withStanding (Waiting (lockOf (kind c r) r))) w d) in (E .stood, E .wants)
 
-  calls-stays : Stays s (calls g s) w
-  unfolding calls stand asked
-  calls-stays = stays-task s (nextAt s g) (standingAs Active) (inl (omega arith)) w
+  dequeues-stays : Stays s (dequeues g s) w
+  unfolding dequeues stand asked
+  dequeues-stays = stays-task s (nextAt s g) (withStanding Active) (inl (omega arith)) w
 
 passes-stays : (s : State) (g w : ℕ) → Stays s (passes g s) w
 unfolding passes
-passes-stays s g w = stays-then s (calls g s) _ w (calls-stays s g w) (opens-stays (calls g s) g w (nextAt s g) (asked s (nextAt s g)))
+passes-stays s g w = stays-then s (dequeues g s) _ w (dequeues-stays s g w) (opens-stays (dequeues g s) g w (nextAt s g) (asked s (nextAt s g)))
 
 -- ---- the events
-module _ (c : SetUp) (t r : ℕ) (s : State) (w : ℕ) where
+module _ (c : Setup) (t r : ℕ) (s : State) (w : ℕ) where
   abbrev g : ℕ
   g = groupOf c r
 
   request-stays : w ≢ t → Stays s (requestEdit c t r s) w
-  request-stays d = request-edit-by c t r s (λ x. Stays s x w) (λ _. opens-stays s g w t r) (λ _ _. queues-stays s g w c t r d)
+  request-stays d = request-edit-by c t r s (λ x. Stays s x w) (λ _. opens-stays s g w t r) (λ _ _. enqueues-stays s g w c t r d)
 
   complete-stays : Stays s (completeEdit c t r s) w
   unfolding frees closes stand asked

@@ -10,29 +10,29 @@ use lib.Dec.{ltb}
 use lib.ListN.{length}
 use borrow.Author.Tests.{ltb-true, eqb-false, eq-eqb, ne-eqb}
 use Rattle.search.specs.Words.{if_then_else_, _is_}
-use Rattle.search.specs.Numbered.{NoneApplies}
+use Rattle.numbers.specs.Numbered.{NoneApplies}
 use Rattle.search.proofs.Tests.{tests}
-use Rattle.search.proofs.Refusals.{none-iff}
-use Rattle.processors.specs.Limits.{processors}
+use Rattle.numbers.proofs.Refusals.{none-iff}
+use Rattle.numbers.specs.Limits.{mostProcessors, mostTasks, mostRequests}
 use Rattle.processors.specs.Words.{linkOf, runOf}
 use Rattle.scheduler.specs.Placed.{Served}
-use Rattle.scheduler.proofs.Laws.{served-law, arriving-count, leaving-count, softening-count, giving-way-count}
-use Rattle.input.specs.Limits.{mostTasks, short, long}
+use Rattle.scheduler.proofs.Laws.{served-law, arriving-count, leaving-count, becoming-preemptable-count, giving-way-count}
+use Rattle.input.specs.Kinds.{short, long, arrival, finish, request as asking, completion, passing, fieldsOf}
 use Rattle.input.specs.Words.{kind}
-use Rattle.setups.specs.Refusals.{setUpRefusal}
+use Rattle.setups.specs.Refusals.{setupRefusal}
 use Rattle.setups.specs.Naming.{groupOf}
 use Rattle.setups.specs.Clearing.{isClear}
-use Rattle.input.specs.Kinds.{arrival, finish, request as asking, completion, passing, fieldsOf}
-use Rattle.input.specs.declared.SetUp.{SetUp}
+use Rattle.input.specs.declared.Setup.{Setup}
 use Rattle.input.specs.declared.Event.{Event}
 use Rattle.setups.proofs.Accepted.{and-none-iff}
-use Rattle.protocol.specs.Words.{mostRequests, lastClock, absent, spinning, suspended, stand, depth, request}
+use Rattle.protocol.specs.Words.{lastClock, absent, spinning, suspended, stand, depth, request}
 use Rattle.protocol.specs.Ranks.{jobs}
-use Rattle.protocol.specs.Situations.{situation, hindrance}
+use Rattle.protocol.specs.Situations.{situation, situationRefusal}
 use Rattle.protocol.specs.Refusals.{stepOf, misplaced, eventRows, judge}
-use Rattle.protocol.specs.Locks.{opens, queues, closes, frees, nextAt, calls, passes, arriveEdit, finishEdit}
+use Rattle.protocol.specs.Locks.{opens, enqueues, closes, frees, nextAt, dequeues, passes, arriveEdit, finishEdit}
 use Rattle.protocol.specs.Edited.{requestEdit, completeEdit, edited}
-use Rattle.protocol.specs.Events.{withProcessors, Prefers, cold, arrives, leaves, softens, givesWay, arriveEvent, finishEvent, requestEvent, completeEvent, charged, act, Move, moved, stepBy, runBy, step, plain, run}
+use Rattle.protocol.specs.Records.{withProcessors}
+use Rattle.protocol.specs.Events.{Prefers, cold, arrives, leaves, becomesPreemptable, givesWay, arriveEvent, finishEvent, requestEvent, completeEvent, charged, act, Move, moved, stepBy, runBy, step, plain, run}
 use Rattle.protocol.specs.declared.Situation.the-variants.{NoJob, Running, Spinning, LinkedOnly, Ready, Suspended}
 use Rattle.protocol.specs.declared.State.{State}
 use Rattle.protocol.proofs.Statements.{Grouped, Times, Steady, Sound, Acts, Asks, Ends, SameTask}
@@ -65,7 +65,7 @@ uses-resource (suc (suc (suc (suc (suc k))))) h = absurd (omega arith)
 
 -- what hinders nothing: here, not spinning, on a processor
 unhindered : (here asleep on spins linked : Bool) (n : ℕ)
-    → hindrance (if here then NoJob else if asleep then Suspended else if on then (if spins then Spinning else Running) else if linked then LinkedOnly else Ready) ≡ n
+    → situationRefusal (if here then NoJob else if asleep then Suspended else if on then (if spins then Spinning else Running) else if linked then LinkedOnly else Ready) ≡ n
     → n ≢ 18 → n ≢ 19 → n ≢ 20 → (here ≡ false) × (on ≡ true) × (spins ≡ false)
 unhindered true b d f g n e x y z = absurd (x (sym e))
 unhindered false true d f g n e x y z = absurd (y (sym e))
@@ -84,7 +84,7 @@ sound-served s Q = served-law (s .processors) (jobs (s .setup) s) (Q .placed)
 
 -- ---- what an accepted event's rows say
 module _ (s : State) (e : Event) (Q : Sound s) (ok : judge s e ≡ 0) where
-  abbrev c : SetUp
+  abbrev c : Setup
   c = s .setup
 
   abbrev t : ℕ
@@ -121,15 +121,15 @@ module _ (s : State) (e : Event) (Q : Sound s) (ok : judge s e ≡ 0) where
   row16 = simp (tests, and-none-iff) at (no-row 7 (omega arith))
 
   module _ (k : (finish ≤ e .kind) × (e .kind ≤ completion)) where
-    row18 : hindrance (situation s t) ≢ 18
+    row18 : situationRefusal (situation s t) ≢ 18
     unfolding eventRows
     row18 = (simp (tests, and-none-iff) at (no-row 9 (omega arith))) k
 
-    row19 : hindrance (situation s t) ≢ 19
+    row19 : situationRefusal (situation s t) ≢ 19
     unfolding eventRows
     row19 = (simp (tests, and-none-iff) at (no-row 10 (omega arith))) k
 
-    row20 : hindrance (situation s t) ≢ 20
+    row20 : situationRefusal (situation s t) ≢ 20
     unfolding eventRows
     row20 = (simp (tests, and-none-iff) at (no-row 11 (omega arith))) k
 
@@ -172,8 +172,8 @@ module _ (s : State) (e : Event) (Q : Sound s) (ok : judge s e ≡ 0) where
   unfolding situation charged
   acts-of k =
       let p = s .processors in
-      let z = unhindered (stand s t is absent) (stand s t is suspended) (ltb (runOf p t) processors) (stand s t is spinning) (ltb (linkOf p t) processors) _ refl (row18 k) (row19 k) (row20 k) in
-      let on : runOf p t < processors = ltb-true _ _ (z .1) in
+      let z = unhindered (stand s t is absent) (stand s t is suspended) (ltb (runOf p t) mostProcessors) (stand s t is spinning) (ltb (linkOf p t) mostProcessors) _ refl (row18 k) (row19 k) (row20 k) in
+      let on : runOf p t < mostProcessors = ltb-true _ _ (z .1) in
       let t-in : t < mostTasks = omega (arith, row11 (omega arith), grouped .few-tasks) in
       let m = mode-runs c s t (sound-served s Q .runnable t t-in on .mode) in
       record { on = on; act = same-of t .stood ∙ ⊎-elim (λ y. y) (λ y. absurd (eqb-false _ _ (z .2) y)) (m .1) }
@@ -239,12 +239,12 @@ module _ (s : State) (e : Event) (Q : Sound s) (ok : judge s e ≡ 0) where
   -- ---- the processors
   -- no move changes how many processors there are
   counted : (pick : Prefers) → stepBy pick s e .state .processors .count ≡ s .processors .count
-  unfolding charged arriveEvent finishEvent arrives leaves softens givesWay passes opens calls queues frees closes
+  unfolding charged arriveEvent finishEvent arrives leaves becomesPreemptable givesWay passes opens dequeues enqueues frees closes
   counted pick =
       let p = s .processors in
       step-by pick (λ x. x .processors .count ≡ p .count) (λ _. arriving-count _ _ _ _) (λ _. leaving-count _ _ _)
       (λ _. request-by c t r s₁ (λ x. x .processors .count ≡ p .count) (λ _. refl) (λ _ _ _. refl) (λ _ _ _. leaving-count _ _ _))
-      (λ _. complete-by pick c t r s₁ (λ x. x .processors .count ≡ p .count) (λ _. refl) (λ _ _ _. softening-count p (jobs c s) t) (λ _ _ _. softening-count p (jobs c s) t)
+      (λ _. complete-by pick c t r s₁ (λ x. x .processors .count ≡ p .count) (λ _. refl) (λ _ _ _. becoming-preemptable-count p (jobs c s) t) (λ _ _ _. becoming-preemptable-count p (jobs c s) t)
       (λ _ _ _. giving-way-count _ _ _) (λ _ _ _. arriving-count _ _ _ _ ∙ giving-way-count _ _ _))
       (λ _. refl)
 
@@ -265,12 +265,12 @@ module _ (s : State) (e : Event) (Q : Sound s) (ok : judge s e ≡ 0) where
       let K = done s′ (step-does pick s e ok) in
       let same : s′ .setup ≡ c = K .0 .1 in (
         record {
-          setup = ap setUpRefusal same ∙ Q .setup;
+          setup = ap setupRefusal same ∙ Q .setup;
           clean = ap isClear same ∙ Q .clean;
-          count = counted pick ∙ Q .count ∙ ap (λ (x : SetUp). x .processors) (sym same);
+          count = counted pick ∙ Q .count ∙ ap (λ (x : Setup). x .processors) (sym same);
           times = K .0 .0;
-          steady = subst (λ (x : SetUp). Steady x s′) (sym same) (K .1);
-          placed = subst (λ (x : SetUp). Rests x s′) (sym same) (placed-by pick);
+          steady = subst (λ (x : Setup). Steady x s′) (sym same) (K .1);
+          placed = subst (λ (x : Setup). Rests x s′) (sym same) (placed-by pick);
         },
         same,
       )

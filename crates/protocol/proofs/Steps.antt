@@ -13,29 +13,31 @@ use Rattle.processors.specs.declared.Processors.{Processors}
 use Rattle.scheduler.specs.Arriving.{arriving as linking}
 use Rattle.scheduler.specs.Leaving.{becomingPreemptable, leaving, givingWay}
 use Rattle.scheduler.specs.Placed.{Placed}
-use Rattle.scheduler.specs.Changes.{Alike, Joins, Softens}
-use Rattle.scheduler.proofs.Laws.{arriving-law, alike-law, hardening-law, softening-law, raising-law, leaving-law, giving-way-law}
-use Rattle.input.specs.Limits.{mostTasks, mostResources, short, long}
+use Rattle.scheduler.specs.Changes.{Alike, Joins, BecomesPreemptable}
+use Rattle.scheduler.proofs.Laws.{arriving-law, alike-law, becoming-non-preemptable-law, becoming-preemptable-law, inheriting-law, leaving-law, giving-way-law}
+use Rattle.numbers.specs.Limits.{mostTasks, mostResources, mostRequests, nobody}
+use Rattle.input.specs.Kinds.{short, long}
 use Rattle.input.specs.Words.{kind}
 use Rattle.setups.specs.Naming.{groupOf}
-use Rattle.input.specs.declared.SetUp.{SetUp}
-use Rattle.protocol.specs.Words.{mostRequests, nobody, absent, spinning, suspended, task, stand, asked, depth, request, holder, len, waiter}
+use Rattle.input.specs.declared.Setup.{Setup}
+use Rattle.protocol.specs.Words.{absent, spinning, suspended, task, stand, asked, depth, request, holder, len, waiter}
 use Rattle.protocol.specs.Ranks.{own, jobs}
-use Rattle.protocol.specs.Locks.{arriving, departing, onTask, openOfKind, opens, queues, closes, frees, nextAt, calls, passes, finishEdit}
+use Rattle.protocol.specs.Locks.{arriving, departing, onTask, openOfKind, opens, enqueues, closes, frees, nextAt, dequeues, passes, finishEdit}
 use Rattle.protocol.specs.Edited.{requestEdit, completeEdit}
-use Rattle.protocol.specs.Events.{Prefers, withProcessors, arrives, leaves, softens, givesWay, finishEvent, requestEvent, completeEvent}
+use Rattle.protocol.specs.Events.{Prefers, arrives, leaves, becomesPreemptable, givesWay, finishEvent, requestEvent, completeEvent}
+use Rattle.protocol.specs.Records.{withProcessors}
 use Rattle.protocol.specs.declared.Task.{Task}
 use Rattle.protocol.specs.declared.State.{State}
 use Rattle.protocol.proofs.Statements.{Grouped, Waits, LocksBut, Locks, Sized, Blank, Steady, Acts, Asks, Ends, Opens, Queues, Calls, Closes, Stands}
-use Rattle.protocol.proofs.Edits.{pending-in, whole, loosen, opens-locks, queues-locks, calls-locks, closes-locks, stands-locks}
+use Rattle.protocol.proofs.Edits.{pending-in, whole, loosen, opens-locks, enqueues-locks, dequeues-locks, closes-locks, stands-locks}
 use Rattle.protocol.proofs.Told.{short-none, mode-soft}
-use Rattle.protocol.proofs.Jobs.{queues-short, queues-long, opens-short, opens-long, closes-inner, closes-long, closes-short, soften-alike, comes-jobs, goes-jobs, passes-long, passes-short}
+use Rattle.protocol.proofs.Jobs.{enqueues-short, enqueues-long, opens-short, opens-long, closes-inner, closes-long, closes-short, soften-alike, comes-jobs, goes-jobs, passes-long, passes-short}
 use Rattle.protocol.proofs.Branches.{request-by, complete-by, request-edit-by, complete-edit-by}
-use Rattle.protocol.proofs.Views.{sized-task, opens-view, opens-sized, opens-own, queues-view, queues-sized, queues-own, calls-view, calls-sized, calls-own, closes-view, frees-view, closes-sized, frees-sized, closes-own, frees-own, with-jobs, stands-view, stands-stand, stands-own}
-use Rattle.protocol.proofs.Blanks.{opens-blank, queues-blank, calls-blank, closes-blank, frees-blank, stands-blank, with-blank, with-sized, with-locks}
+use Rattle.protocol.proofs.Views.{sized-task, opens-view, opens-sized, opens-own, enqueues-view, enqueues-sized, enqueues-own, dequeues-view, dequeues-sized, dequeues-own, closes-view, frees-view, closes-sized, frees-sized, closes-own, frees-own, with-jobs, stands-view, stands-stand, stands-own}
+use Rattle.protocol.proofs.Blanks.{opens-blank, enqueues-blank, dequeues-blank, closes-blank, frees-blank, stands-blank, with-blank, with-sized, with-locks}
 
 -- ---- of r's kind
-module _ (c : SetUp) (s : State) (t r : ℕ) where
+module _ (c : Setup) (s : State) (t r : ℕ) where
   pub kind-some : openOfKind c s t r ≡ true → (i : ℕ) × (i < depth s t) × (kind c (request s t i) ≡ kind c r)
   unfolding openOfKind
   kind-some e = simp tests at e
@@ -45,26 +47,26 @@ module _ (c : SetUp) (s : State) (t r : ℕ) where
   kind-none e = simp tests at e
 
 -- ---- the processors of a state change
-pub with-steady : (c : SetUp) (s : State) (p : Processors) → Steady c s → Steady c (withProcessors p s)
+pub with-steady : (c : Setup) (s : State) (p : Processors) → Steady c s → Steady c (withProcessors p s)
 with-steady c s p S = record { sized = with-sized c s p (S .sized); blank = with-blank c s p (S .blank); locks = with-locks c s p nobody (S .locks) }
 
 -- who is linked and runs, by the jobs of the state
-abbrev pub Rests : SetUp → State → Type 0
+abbrev pub Rests : Setup → State → Type 0
 Rests c s = Placed (s .processors) (jobs c s)
 
 -- a hand-over reads no processor
 passes-with : (p : Processors) (s : State) (g : ℕ) → passes g (withProcessors p s) ≡ withProcessors p (passes g s)
-unfolding passes opens calls asked waiter
+unfolding passes opens dequeues asked waiter
 passes-with p s g = refl
 
 -- ---- u, the next of a group that nobody holds, becomes holder
-module _ (c : SetUp) (G : Grouped c) (s : State) (Z : Sized s) (B : Blank s) (g : ℕ) (g-in : g < mostResources) (L : LocksBut c s g)
+module _ (c : Setup) (G : Grouped c) (s : State) (Z : Sized s) (B : Blank s) (g : ℕ) (g-in : g < mostResources) (L : LocksBut c s g)
     (free : holder s g ≡ nobody) (n : ℕ) (some : len s g ≡ suc n) where
   abbrev u : ℕ
   u = nextAt s g
 
   abbrev s₂ : State
-  s₂ = calls g s
+  s₂ = dequeues g s
 
   u-waits : (spinning ≤ stand s u) × (groupOf c (asked s u) ≡ g)
   u-waits = L .groups g .queued 0 (omega arith)
@@ -76,19 +78,19 @@ module _ (c : SetUp) (G : Grouped c) (s : State) (Z : Sized s) (B : Blank s) (g 
   u-in = pending-in c G s g u L (λ e. omega (arith, u-waits .0))
 
   called : Calls s s₂ u g
-  called = calls-view c s Z B g g-in u-in n some
+  called = dequeues-view c s Z B g g-in u-in n some
 
   called-sized : Sized s₂
-  called-sized = calls-sized c s Z B g g-in u-in n some
+  called-sized = dequeues-sized c s Z B g g-in u-in n some
 
   called-blank : Blank s₂
-  called-blank = calls-blank c s Z B g g-in u-in n some
+  called-blank = dequeues-blank c s Z B g g-in u-in n some
 
   called-locks : LocksBut c s₂ g
-  called-locks = calls-locks c s s₂ u g L called refl
+  called-locks = dequeues-locks c s s₂ u g L called refl
 
   called-own : (w : ℕ) → own s₂ w ≡ own s w
-  called-own = calls-own c s Z B g g-in u-in n some
+  called-own = dequeues-own c s Z B g g-in u-in n some
 
   room : depth s₂ u < mostRequests
   room = omega (arith, called .deep, W .room)
@@ -121,7 +123,7 @@ module _ (c : SetUp) (G : Grouped c) (s : State) (Z : Sized s) (B : Blank s) (g 
     locks = passed-locks;
   }
 
-module _ (c : SetUp) (G : Grouped c) (s : State) (S : Steady c s) (t : ℕ) where
+module _ (c : Setup) (G : Grouped c) (s : State) (S : Steady c s) (t : ℕ) where
   acts-in : Acts s t → t < mostTasks
   acts-in A = pending-in c G s nobody t (S .locks) (λ e. omega (arith, A .act))
 
@@ -212,7 +214,7 @@ module _ (c : SetUp) (G : Grouped c) (s : State) (S : Steady c s) (t : ℕ) wher
             let i = g-in (A .inside) in
             let own′ = opens-own c s (S .sized) (S .blank) g (i .0) t r t-in (A .room) in
             elim (ℕ-discrete (kind c r) short) [
-              | yes k ↦ hardening-law (s .processors) (jobs c s) (jobs c s′) P t t-in (A .acts .on)
+              | yes k ↦ becoming-non-preemptable-law (s .processors) (jobs c s) (jobs c s′) P t t-in (A .acts .on)
                   (opens-short c G s s′ t r g nobody nobody (S .locks) (opened-steady .locks) own′ (A .acts .act) (A .inside) refl opened k)
               | no k ↦ alike-law (s .processors) (jobs c s) (jobs c s′) P
                   (opens-long c G s s′ t r g nobody nobody (S .locks) (opened-steady .locks) own′ (A .acts .act) (A .inside) refl opened (kind-long (A .inside) k)
@@ -229,37 +231,37 @@ module _ (c : SetUp) (G : Grouped c) (s : State) (S : Steady c s) (t : ℕ) wher
             (pending-in c G s nobody (waiter s g i) (S .locks) (λ e. omega arith), λ e. omega (arith, A .acts .act, ap (stand s) e)))
             (K .once)
 
-        pub queued : Queues c s (queues c t r (groupOf c r) s) t r (groupOf c r)
-        queued = queues-view c s (S .sized) (S .blank) g (g-in (A .inside) .0) t r (acts-in (A .acts)) (G .kinds r (A .inside)) queue-room
+        pub queued : Queues c s (enqueues c t r (groupOf c r) s) t r (groupOf c r)
+        queued = enqueues-view c s (S .sized) (S .blank) g (g-in (A .inside) .0) t r (acts-in (A .acts)) (G .kinds r (A .inside)) queue-room
 
-        queued-own : (w : ℕ) → own (queues c t r g s) w ≡ own s w
-        queued-own = queues-own c s (S .sized) (S .blank) g (g-in (A .inside) .0) t r (acts-in (A .acts)) (G .kinds r (A .inside)) queue-room
+        queued-own : (w : ℕ) → own (enqueues c t r g s) w ≡ own s w
+        queued-own = enqueues-own c s (S .sized) (S .blank) g (g-in (A .inside) .0) t r (acts-in (A .acts)) (G .kinds r (A .inside)) queue-room
 
-        queued-steady : Steady c (queues c t r g s)
+        queued-steady : Steady c (enqueues c t r g s)
         queued-steady = record {
-          sized = queues-sized c s (S .sized) (S .blank) g (g-in (A .inside) .0) t r (acts-in (A .acts)) (G .kinds r (A .inside)) queue-room;
-          blank = queues-blank c s (S .sized) (S .blank) g (g-in (A .inside) .0) t r (acts-in (A .acts)) (G .kinds r (A .inside)) queue-room;
-          locks = queues-locks c s (queues c t r g s) t r g (S .locks) queued (A .acts .act) busy (A .inside) refl (A .room) (A .longs-first) other;
+          sized = enqueues-sized c s (S .sized) (S .blank) g (g-in (A .inside) .0) t r (acts-in (A .acts)) (G .kinds r (A .inside)) queue-room;
+          blank = enqueues-blank c s (S .sized) (S .blank) g (g-in (A .inside) .0) t r (acts-in (A .acts)) (G .kinds r (A .inside)) queue-room;
+          locks = enqueues-locks c s (enqueues c t r g s) t r g (S .locks) queued (A .acts .act) busy (A .inside) refl (A .room) (A .longs-first) other;
         }
 
-        spins-placed : Rests c s → kind c r ≡ short → Rests c (queues c t r g s)
-        unfolding queues
+        spins-placed : Rests c s → kind c r ≡ short → Rests c (enqueues c t r g s)
+        unfolding enqueues
         spins-placed P k =
-            let s′ = queues c t r g s in
-            hardening-law (s .processors) (jobs c s) (jobs c s′) P t (acts-in (A .acts)) (A .acts .on)
-            (queues-short c G s s′ t r g nobody nobody (S .locks) (queued-steady .locks) queued-own (A .acts .act) (A .inside) refl queued k)
+            let s′ = enqueues c t r g s in
+            becoming-non-preemptable-law (s .processors) (jobs c s) (jobs c s′) P t (acts-in (A .acts)) (A .acts .on)
+            (enqueues-short c G s s′ t r g nobody nobody (S .locks) (queued-steady .locks) queued-own (A .acts .act) (A .inside) refl queued k)
 
-        suspends-placed : Rests c s → kind c r ≡ long → Rests c (leaves c t (queues c t r g s))
-        unfolding leaves queues
+        suspends-placed : Rests c s → kind c r ≡ long → Rests c (leaves c t (enqueues c t r g s))
+        unfolding leaves enqueues
         suspends-placed P k =
-            let s′ = queues c t r g s in
+            let s′ = enqueues c t r g s in
             let t-in = acts-in (A .acts) in
             let asleep : stand s′ t ≡ suspended = omega (arith, queued .stood) in
             let none : depth s t ≡ 0 = sym (queued .deep) ∙ queued-steady .locks .tasks t .waits (omega arith) .asleep asleep in
             let soft = mode-soft c s t t-in (A .acts .act) (short-none c s t (λ i l. absurd (omega arith))) in
             rw (with-jobs c s′ (leaving (s .processors) (jobs c s′) t))
-            (raising-law (s .processors) (jobs c s) (jobs c s′) P t t-in (A .acts .on) soft (holder s g)
-            (queues-long c G s s′ t r g nobody nobody (S .locks) (queued-steady .locks) queued-own (A .acts .act) (A .inside) refl queued k busy none))
+            (inheriting-law (s .processors) (jobs c s) (jobs c s′) P t t-in (A .acts .on) soft (holder s g)
+            (enqueues-long c G s s′ t r g nobody nobody (S .locks) (queued-steady .locks) queued-own (A .acts .act) (A .inside) refl queued k busy none))
 
       -- a group of r's kind that t has open is r's, and t holds it
       granted : (openOfKind c s t r ≡ true) ⊎ (holder s g ≡ nobody) → (holder s g ≡ t) ⊎ (holder s g ≡ nobody)
@@ -367,19 +369,19 @@ module _ (c : SetUp) (G : Grouped c) (s : State) (S : Steady c s) (t : ℕ) wher
         -- ---- the processors
         module _ (P : Rests c s) where
           -- short: the completer is preemptable
-          softer : kind c r ≡ short → Softens (jobs c s) (jobs c f) t
+          softer : kind c r ≡ short → BecomesPreemptable (jobs c s) (jobs c f) t
           softer k = closes-short c G s f t g nobody nobody g (S .locks) freed freed-locks freed-own (A .acts .act) freed-group refl (G .alike r (newest .0) ∙ k) none-left
 
-          softened : (s′ : State) → Softens (jobs c s) (jobs c s′) t → Placed (becomingPreemptable (s .processors) t) (jobs c s′)
-          softened s′ X = softening-law (s .processors) (jobs c s) (jobs c s′) P t (acts-in (A .acts)) (A .acts .on) X
+          softened : (s′ : State) → BecomesPreemptable (jobs c s) (jobs c s′) t → Placed (becomingPreemptable (s .processors) t) (jobs c s′)
+          softened s′ X = becoming-preemptable-law (s .processors) (jobs c s) (jobs c s′) P t (acts-in (A .acts)) (A .acts .on) X
 
-          short-empty : kind c r ≡ short → Rests c (softens c t f)
-          unfolding softens frees closes
+          short-empty : kind c r ≡ short → Rests c (becomesPreemptable c t f)
+          unfolding becomesPreemptable frees closes
           short-empty k = rw (with-jobs c f (becomingPreemptable (s .processors) t)) (softened f (softer k))
 
           -- and the first in line goes on unpreempted
-          short-pass : kind c r ≡ short → (n : ℕ) → len s g ≡ suc n → Rests c (softens c t (passes g f))
-          unfolding softens passes opens calls frees closes
+          short-pass : kind c r ≡ short → (n : ℕ) → len s g ≡ suc n → Rests c (becomesPreemptable c t (passes g f))
+          unfolding becomesPreemptable passes opens dequeues frees closes
           short-pass k n z = rw (with-jobs c (passes g f) (becomingPreemptable (s .processors) t)) (softened (passes g f) (soften-alike c s f (passes g f) t (softer k) (pass-short n z k)))
 
           -- long: the completer's rank is restored, and it gives way

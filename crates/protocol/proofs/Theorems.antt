@@ -4,14 +4,13 @@ use mathlib.Core.List.{List}
 use borrow.Author.Tests.{eq-eqb, ne-eqb}
 use Rattle.search.specs.Below.{allBelow}
 use Rattle.search.proofs.Tables.{replicate-at}
-use Rattle.processors.specs.Limits.{processors}
+use Rattle.numbers.specs.Limits.{mostProcessors, mostTasks, mostResources, nobody}
 use Rattle.processors.specs.Words.{noneLinked}
-use Rattle.input.specs.Limits.{mostTasks, mostResources}
-use Rattle.setups.specs.Refusals.{setUpRefusal}
+use Rattle.setups.specs.Refusals.{setupRefusal}
 use Rattle.setups.specs.Clearing.{cleared, emptyFrom, isClear}
-use Rattle.input.specs.declared.SetUp.{SetUp}
+use Rattle.input.specs.declared.Setup.{Setup}
 use Rattle.input.specs.declared.Event.{Event}
-use Rattle.protocol.specs.Words.{nobody, noTask, noGroup}
+use Rattle.protocol.specs.Records.{noTask, noGroup}
 use Rattle.protocol.specs.Events.{Move, fresh, begin, after}
 use Rattle.protocol.specs.Demands.{Given, LinksHighest, ShortQueue, AlwaysSound, AlwaysDemand3, AlwaysCharges, AlwaysSums, RefusedLeftOut, RefusedKeeps, IsEmpty, RefusedIsEmpty}
 use Rattle.protocol.proofs.Statements.{Sound}
@@ -22,21 +21,21 @@ use Rattle.protocol.proofs.Totals.{charges, totals-after}
 use Rattle.protocol.proofs.Holding.{priorities-apart, links-highest, one-holder, chains-end, one-place}
 use Rattle.protocol.proofs.Short.{short-queue}
 
-start : (c : SetUp) → Given c → Sound (begin c .state)
+start : (c : Setup) → Given c → Sound (begin c .state)
 start c g = begin-sound c (g .accepted) (g .start)
 
-module _ (c : SetUp) (g : Given c) (ms : List Move) where
+module _ (c : Setup) (g : Given c) (ms : List Move) where
   Q : Sound (after c ms)
   Q = run-sound-by (begin c .state) ms (start c g)
 
   -- the set-up is the one given, cleared, so m is the number of processors given
   same-setup : after c ms .setup ≡ cleared c
   unfolding begin fresh
-  same-setup = run-setup-by (begin c .state) ms (start c g) ∙ rw (eq-eqb (setUpRefusal c) 0 (g .accepted))
+  same-setup = run-setup-by (begin c .state) ms (start c g) ∙ rw (eq-eqb (setupRefusal c) 0 (g .accepted))
 
   same-count : after c ms .setup .processors ≡ c .processors
   unfolding cleared
-  same-count = ap (λ (x : SetUp). x .processors) same-setup
+  same-count = ap (λ (x : Setup). x .processors) same-setup
 
 -- ---- the state is sound
 pub sound-after : AlwaysSound
@@ -72,14 +71,14 @@ refused-kept = refused-keeps-by
 
 pub refused-empty : RefusedIsEmpty
 unfolding begin fresh noneLinked isClear emptyFrom allBelow
-refused-empty c h = rw (ne-eqb (setUpRefusal c) 0 h) (
+refused-empty c h = rw (ne-eqb (setupRefusal c) 0 h) (
   refl,
   record {
     processors = (refl, refl);
     counts = (refl, refl, refl);
     tables = refl;
     clock = (refl, refl);
-    links = λ k. (replicate-at processors k nobody, replicate-at processors k nobody);
+    links = λ k. (replicate-at mostProcessors k nobody, replicate-at mostProcessors k nobody);
     tasks = λ t. replicate-at mostTasks t noTask;
     groups = λ g. replicate-at mostResources g noGroup;
   },

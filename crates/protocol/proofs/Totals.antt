@@ -12,12 +12,13 @@ use borrow.Author.Tests.{eq-eqb, ne-eqb}
 use Rattle.search.specs.Words.{if_then_else_, _is_, _isn't_}
 use Rattle.search.proofs.Tests.{tests, never}
 use Rattle.search.proofs.Tables.{table-at, replicate-at}
-use Rattle.input.specs.Limits.{mostTasks}
-use Rattle.setups.specs.Refusals.{setUpRefusal}
+use Rattle.numbers.specs.Limits.{mostTasks, nothing}
+use Rattle.setups.specs.Refusals.{setupRefusal}
 use Rattle.input.specs.Kinds.{arrival, finish}
-use Rattle.input.specs.declared.SetUp.{SetUp}
+use Rattle.input.specs.declared.Setup.{Setup}
 use Rattle.input.specs.declared.Event.{Event}
-use Rattle.protocol.specs.Words.{sum, absent, standingNo, noTask, task, stand}
+use Rattle.protocol.specs.Words.{sum, absent, standingNo, task, stand}
+use Rattle.protocol.specs.Records.{noTask}
 use Rattle.protocol.specs.Situations.{situation, totalOf}
 use Rattle.protocol.specs.Refusals.{stepOf, judge}
 use Rattle.protocol.specs.Locks.{arriving, departing, onTask}
@@ -191,11 +192,11 @@ pub totals-sum : (ms : List Move) (s : State) (t since : ℕ) → Sound s → (s
 totals-sum ms s t since Q low = sum-for ms s t since (pending s t) Q refl (λ z. low (simp tests at z))
 
 -- ---- from a set-up, which has no task pending
-begin-none : (c : SetUp) → setUpRefusal c ≡ 0 → (t : ℕ) → task (begin c .state) t ≡ noTask
+begin-none : (c : Setup) → setupRefusal c ≡ 0 → (t : ℕ) → task (begin c .state) t ≡ noTask
 unfolding begin fresh
-begin-none c good t = rw (eq-eqb (setUpRefusal c) 0 good) (replicate-at mostTasks t noTask)
+begin-none c good t = rw (eq-eqb (setupRefusal c) 0 good) (replicate-at mostTasks t noTask)
 
-pub totals-after : (c : SetUp) → Given c → (ms : List Move) (t : ℕ) → sum (task (after c ms) t .totals) ≡ pendingTicks (begin c .state) ms t false 0
+pub totals-after : (c : Setup) → Given c → (ms : List Move) (t : ℕ) → sum (task (after c ms) t .totals) ≡ pendingTicks (begin c .state) ms t false 0
 unfolding stand
 totals-after c G ms t =
     let s = begin c .state in

@@ -12,13 +12,14 @@ use Rattle.queue.specs.Waiting.{waiter as queued, appended, withoutFirst}
 use Rattle.queue.specs.declared.Queue.{Queue}
 use Rattle.queue.proofs.Laws.{append-len, append-last, append-place, without-len, without-place}
 use Rattle.processors.specs.declared.Processors.{Processors}
-use Rattle.input.specs.Limits.{mostTasks, mostResources, long}
+use Rattle.numbers.specs.Limits.{mostTasks, mostResources, mostRequests, nobody, nothing}
+use Rattle.input.specs.Kinds.{long}
 use Rattle.input.specs.Words.{kind}
-use Rattle.input.specs.declared.SetUp.{SetUp}
-use Rattle.protocol.specs.Words.{mostRequests, totalCount, nobody, active, spinning, standingNo, askedOf, task, group, stand, asked, deadline, depth, request, holder, len, waiter}
+use Rattle.input.specs.declared.Setup.{Setup}
+use Rattle.protocol.specs.Records.{totalCount, withStanding, withProcessors}
+use Rattle.protocol.specs.Words.{active, spinning, standingNo, askedOf, task, group, stand, asked, deadline, depth, request, holder, len, waiter}
 use Rattle.protocol.specs.Ranks.{own, longHeld, effective, shortOpen, jobs}
-use Rattle.protocol.specs.Locks.{standingAs, opening, closing, onTask, withGroup, lockOf, opens, queues, closes, frees, nextAt, calls}
-use Rattle.protocol.specs.Events.{withProcessors}
+use Rattle.protocol.specs.Locks.{opening, closing, onTask, withGroup, lockOf, opens, enqueues, closes, frees, nextAt, dequeues}
 use Rattle.protocol.specs.declared.Standing.the-variants.{Active, Waiting}
 use Rattle.protocol.specs.declared.Task.{Task}
 use Rattle.protocol.specs.declared.Group.{Group}
@@ -32,7 +33,7 @@ same-task s s′ u e = record {
   stood = ap (λ (x : Task). standingNo (x .standing)) e;
   wants = ap (λ (x : Task). askedOf (x .standing)) e;
   deep = ap (λ (x : Task). x .depth) e;
-  requested = λ i. ap (λ (x : Task). getD (x .requests) i nobody) e;
+  requested = λ i. ap (λ (x : Task). getD (x .requests) i nothing) e;
 }
 
 pub same-group : (s s′ : State) (a : ℕ) → group s′ a ≡ group s a → SameGroup s s′ a
@@ -95,7 +96,7 @@ lock-asked : (k r : ℕ) → askedOf (Waiting (lockOf k r)) ≡ r
 lock-asked zero r = refl
 lock-asked (suc k) r = refl
 
-module _ (c : SetUp) (s : State) (Z : Sized s) (B : Blank s) (g : ℕ) (g-in : g < mostResources) where
+module _ (c : Setup) (s : State) (Z : Sized s) (B : Blank s) (g : ℕ) (g-in : g < mostResources) where
   in-groups : g < length (s .groups)
   in-groups = omega (arith, Z .groups)
 
@@ -116,8 +117,8 @@ module _ (c : SetUp) (s : State) (Z : Sized s) (B : Blank s) (g : ℕ) (g-in : g
           groups = λ a d. same-group s (opens t r g s) a (group-off s₁ g t q a d);
           stood = ap (λ (x : Task). standingNo (x .standing)) at-t;
           deep = ap (λ (x : Task). x .depth) at-t ∙ add-one _;
-          new = ap (λ (x : Task). getD (x .requests) (depth s t) nobody) at-t ∙ getD-set-same (task s t .requests) (depth s t) r nobody (omega (arith, Z .requests t));
-          old = λ i d. ap (λ (x : Task). getD (x .requests) i nobody) at-t ∙ getD-set-other (task s t .requests) (depth s t) i r nobody d;
+          new = ap (λ (x : Task). getD (x .requests) (depth s t) nothing) at-t ∙ getD-set-same (task s t .requests) (depth s t) r nobody (omega (arith, Z .requests t));
+          old = λ i d. ap (λ (x : Task). getD (x .requests) i nothing) at-t ∙ getD-set-other (task s t .requests) (depth s t) i r nobody d;
           holds = ap (λ (x : Group). x .holder) at-g;
           long = ap (λ (x : Group). x .queue .len) at-g;
           line = λ i. ap (λ (x : Group). queued (x .queue) i) at-g;
@@ -133,66 +134,66 @@ module _ (c : SetUp) (s : State) (Z : Sized s) (B : Blank s) (g : ℕ) (g-in : g
 
   -- ---- a request is queued
   module _ (t r : ℕ) (t-in : t < mostTasks) (k-in : kind c r ≤ long) (room : len s g < capacity) where
-    pub queues-view : Queues c s (queues c t r g s) t r g
-    unfolding queues stand asked depth request holder len waiter
-    queues-view =
-        let f = standingAs (Waiting (lockOf (kind c r) r)) in
+    pub enqueues-view : Queues c s (enqueues c t r g s) t r g
+    unfolding enqueues stand asked depth request holder len waiter
+    enqueues-view =
+        let f = withStanding (Waiting (lockOf (kind c r) r)) in
         let s₁ = onTask t f s in
         let q = group s g .queue in
         let at-t = task-at s t f (in-tasks t t-in) in
         let at-g = group-at s₁ g (group s g .holder) (appended q t) in-groups in
         record {
-          tasks = λ u d. same-task s (queues c t r g s) u (task-off s t f u d);
-          groups = λ a d. same-group s (queues c t r g s) a (group-off s₁ g (group s g .holder) (appended q t) a d);
+          tasks = λ u d. same-task s (enqueues c t r g s) u (task-off s t f u d);
+          groups = λ a d. same-group s (enqueues c t r g s) a (group-off s₁ g (group s g .holder) (appended q t) a d);
           stood = ap (λ (x : Task). standingNo (x .standing)) at-t ∙ lock-stand (kind c r) r k-in;
           wants = ap (λ (x : Task). askedOf (x .standing)) at-t ∙ lock-asked (kind c r) r;
           deep = ap (λ (x : Task). x .depth) at-t;
-          requested = λ i. ap (λ (x : Task). getD (x .requests) i nobody) at-t;
+          requested = λ i. ap (λ (x : Task). getD (x .requests) i nothing) at-t;
           holds = ap (λ (x : Group). x .holder) at-g;
           long = ap (λ (x : Group). x .queue .len) at-g ∙ append-len q t room;
           last = ap (λ (x : Group). queued (x .queue) (q .len)) at-g ∙ append-last q t (B .queues g) room;
           line = λ i d. ap (λ (x : Group). queued (x .queue) i) at-g ∙ append-place q t i (B .queues g) d;
         }
 
-    pub queues-sized : Sized (queues c t r g s)
-    unfolding queues
-    queues-sized =
-        let f = standingAs (Waiting (lockOf (kind c r) r)) in
+    pub enqueues-sized : Sized (enqueues c t r g s)
+    unfolding enqueues
+    enqueues-sized =
+        let f = withStanding (Waiting (lockOf (kind c r) r)) in
         sized-group (onTask t f s) g (group s g .holder) (appended (group s g .queue) t) (sized-task s t f Z t-in (Z .requests t) (Z .totals t))
 
-    pub queues-own : (w : ℕ) → own (queues c t r g s) w ≡ own s w
-    unfolding queues own deadline
-    queues-own = own-task s t (standingAs (Waiting (lockOf (kind c r) r))) (in-tasks t t-in) refl
+    pub enqueues-own : (w : ℕ) → own (enqueues c t r g s) w ≡ own s w
+    unfolding enqueues own deadline
+    enqueues-own = own-task s t (withStanding (Waiting (lockOf (kind c r) r))) (in-tasks t t-in) refl
 
   -- ---- the next of the group waits no more
   module _ (next-in : nextAt s g < mostTasks) (n : ℕ) (some : len s g ≡ suc n) where
-    pub calls-view : Calls s (calls g s) (nextAt s g) g
-    unfolding calls stand depth request holder len waiter
-    calls-view =
+    pub dequeues-view : Calls s (dequeues g s) (nextAt s g) g
+    unfolding dequeues stand depth request holder len waiter
+    dequeues-view =
         let u = nextAt s g in
-        let s₁ = onTask u (standingAs Active) s in
+        let s₁ = onTask u (withStanding Active) s in
         let q = group s g .queue in
-        let at-u = task-at s u (standingAs Active) (in-tasks u next-in) in
+        let at-u = task-at s u (withStanding Active) (in-tasks u next-in) in
         let at-g = group-at s₁ g (group s g .holder) (withoutFirst q) in-groups in
         record {
-          tasks = λ w d. same-task s (calls g s) w (task-off s u (standingAs Active) w d);
-          groups = λ a d. same-group s (calls g s) a (group-off s₁ g (group s g .holder) (withoutFirst q) a d);
+          tasks = λ w d. same-task s (dequeues g s) w (task-off s u (withStanding Active) w d);
+          groups = λ a d. same-group s (dequeues g s) a (group-off s₁ g (group s g .holder) (withoutFirst q) a d);
           stood = ap (λ (x : Task). standingNo (x .standing)) at-u;
           deep = ap (λ (x : Task). x .depth) at-u;
-          requested = λ i. ap (λ (x : Task). getD (x .requests) i nobody) at-u;
+          requested = λ i. ap (λ (x : Task). getD (x .requests) i nothing) at-u;
           holds = ap (λ (x : Group). x .holder) at-g;
           long = omega (arith, some, ap (λ (x : Group). x .queue .len) at-g, without-len q);
           line = λ i. ap (λ (x : Group). queued (x .queue) i) at-g ∙ without-place q i (B .queues g);
         }
 
-    pub calls-sized : Sized (calls g s)
-    unfolding calls
-    calls-sized = sized-group (onTask (nextAt s g) (standingAs Active) s) g (group s g .holder) (withoutFirst (group s g .queue))
-        (sized-task s (nextAt s g) (standingAs Active) Z next-in (Z .requests _) (Z .totals _))
+    pub dequeues-sized : Sized (dequeues g s)
+    unfolding dequeues
+    dequeues-sized = sized-group (onTask (nextAt s g) (withStanding Active) s) g (group s g .holder) (withoutFirst (group s g .queue))
+        (sized-task s (nextAt s g) (withStanding Active) Z next-in (Z .requests _) (Z .totals _))
 
-    pub calls-own : (w : ℕ) → own (calls g s) w ≡ own s w
-    unfolding calls own deadline
-    calls-own = own-task s (nextAt s g) (standingAs Active) (in-tasks (nextAt s g) next-in) refl
+    pub dequeues-own : (w : ℕ) → own (dequeues g s) w ≡ own s w
+    unfolding dequeues own deadline
+    dequeues-own = own-task s (nextAt s g) (withStanding Active) (in-tasks (nextAt s g) next-in) refl
 
   -- ---- the newest request is closed, and the holder of g stays, or nobody holds g
   module _ (t n : ℕ) (t-in : t < mostTasks) (some : depth s t ≡ suc n) (few : depth s t ≤ mostRequests) where
@@ -204,15 +205,15 @@ module _ (c : SetUp) (s : State) (Z : Sized s) (B : Blank s) (g : ℕ) (g-in : g
     unfolding closes stand depth request holder len waiter
     closes-view =
         let left : task (closes t s) t .depth ≡ task s t .depth - 1 = ap (λ (x : Task). x .depth) at-c in
-        let other : (i : ℕ) → i ≢ task s t .depth - 1 → getD (task (closes t s) t .requests) i nobody ≡ getD (task s t .requests) i nobody =
-        λ i d. ap (λ (x : Task). getD (x .requests) i nobody) at-c ∙ getD-set-other (task s t .requests) (task s t .depth - 1) i nobody nobody d in
+        let other : (i : ℕ) → i ≢ task s t .depth - 1 → getD (task (closes t s) t .requests) i nothing ≡ getD (task s t .requests) i nothing =
+        λ i d. ap (λ (x : Task). getD (x .requests) i nothing) at-c ∙ getD-set-other (task s t .requests) (task s t .depth - 1) i nobody nobody d in
         record {
           tasks = λ u d. same-task s (closes t s) u (task-off s t closing u d);
           groups = λ a d. same-group s (closes t s) a refl;
           stood = ap (λ (x : Task). standingNo (x .standing)) at-c;
           deep = omega (arith, some, left);
           old = λ i l. other i (λ e. omega (arith, l, left));
-          gone = ap (λ (i : ℕ). getD (task (closes t s) t .requests) i nobody) left ∙ ap (λ (x : Task). getD (x .requests) (task s t .depth - 1) nobody) at-c
+          gone = ap (λ (i : ℕ). getD (task (closes t s) t .requests) i nothing) left ∙ ap (λ (x : Task). getD (x .requests) (task s t .depth - 1) nothing) at-c
               ∙ getD-set-same (task s t .requests) (task s t .depth - 1) nobody nobody (omega (arith, Z .requests t, few, some));
           rest = λ i l. other i (λ e. omega (arith, l, left));
           holds = refl;
@@ -256,7 +257,7 @@ module _ (c : SetUp) (s : State) (Z : Sized s) (B : Blank s) (g : ℕ) (g-in : g
     frees-own = closes-own
 
 -- ---- processors alone
-module _ (c : SetUp) (s : State) (p : Processors) where
+module _ (c : Setup) (s : State) (p : Processors) where
   pub with-task : (u : ℕ) → SameTask s (withProcessors p s) u
   with-task u = same-task s (withProcessors p s) u refl
 
@@ -279,7 +280,7 @@ module _ (s : State) (Z : Sized s) (t : ℕ) (t-in : t < mostTasks) (none : dept
     groups = λ a. same-group s (onTask t f s) a refl;
     stood = omega (arith, low, ap (λ (x : Task). standingNo (x .standing)) here);
     deep = ap (λ (x : Task). x .depth) here ∙ deep ∙ none;
-    requested = λ i. ap (λ (x : Task). getD (x .requests) i nobody) here ∙ rw same;
+    requested = λ i. ap (λ (x : Task). getD (x .requests) i nothing) here ∙ rw same;
   }
 
   pub stands-stand : stand (onTask t f s) t ≡ standingNo (f (task s t) .standing)

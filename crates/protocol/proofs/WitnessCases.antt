@@ -12,22 +12,22 @@ use Rattle.queue.specs.Waiting.{waiting, waiter as queued, empty, appended, mov
 use Rattle.processors.specs.Words.{link, rankOf, modeOf, linkOf, runOf, noneLinked}
 use Rattle.scheduler.specs.Arriving.{lowestFree, lowestLinked, displacing, arrivingOn, taken, arriving as linking}
 use Rattle.scheduler.specs.Leaving.{becomingPreemptable, nextTask, filling, refilling, leavingFrom, leaving, givingWay}
-use Rattle.placement.specs.PlacedTest.{linkHolds, runHolds, processorHolds, linksHigher, taskHolds, isPlaced}
-use Rattle.input.specs.Limits.{mostTasks, short, long}
+use Rattle.scheduler.specs.PlacedTest.{isPlaced}
+use Rattle.numbers.specs.Limits.{mostTasks}
+use Rattle.input.specs.Kinds.{short, long, arrival, request as asking, completion, fieldsOf}
 use Rattle.input.specs.Words.{kind}
-use Rattle.setups.specs.Refusals.{setUpRows, setUpRefusal}
+use Rattle.setups.specs.Refusals.{setupRows, setupRefusal}
 use Rattle.setups.specs.Naming.{joinedBy, namesAfter, names, groupOf}
 use Rattle.setups.specs.Clearing.{below, cleared, emptyFrom, isClear}
-use Rattle.input.specs.Kinds.{arrival, request as asking, completion, fieldsOf}
-use Rattle.input.specs.declared.SetUp.{SetUp}
+use Rattle.input.specs.declared.Setup.{Setup}
 use Rattle.input.specs.declared.Event.{Event}
 use Rattle.protocol.specs.Words.{active, spinning, suspended, stand, asked, deadline, depth, request, holder, len, waiter}
 use Rattle.protocol.specs.Ranks.{own, leastOf, longHeld, effective, shortOpen, jobs}
 use Rattle.protocol.specs.Situations.{situation}
 use Rattle.protocol.specs.Sound.{clockSound, timesSound, requestsSound, waitingSound, groupSound, emptySound, sound}
 use Rattle.protocol.specs.Refusals.{misplaced, eventRows, judge}
-use Rattle.protocol.specs.Locks.{openOfKind, opens, queues, closes, frees, calls, passes}
-use Rattle.protocol.specs.Events.{cold, arrives, leaves, softens, givesWay, arriveEvent, finishEvent, requestEvent, completeEvent, charged, act, Move, stepBy, plain, runBy, step, run, fresh, begin, after}
+use Rattle.protocol.specs.Locks.{openOfKind, opens, enqueues, closes, frees, dequeues, passes}
+use Rattle.protocol.specs.Events.{cold, arrives, leaves, becomesPreemptable, givesWay, arriveEvent, finishEvent, requestEvent, completeEvent, charged, act, Move, stepBy, plain, runBy, step, run, fresh, begin, after}
 use Rattle.protocol.specs.Cases.{given, event}
 use Rattle.protocol.specs.Demands.{Given, isRunnable, Waiting, WaitsFor, Before, handsOver, completions, ShortQueue}
 use Rattle.protocol.specs.declared.State.{State}
@@ -36,7 +36,7 @@ use Rattle.protocol.proofs.Step.{run-sound-by}
 use Rattle.protocol.proofs.Short.{short-queue}
 
 -- ---- four processors and a short resource: 0 holds it, 1 and 2 spin, and 3 asks; later 0 and then 1 complete
-abbrev pub queueing : SetUp
+abbrev pub queueing : Setup
 queueing = given 4 0 (100 ∷ 200 ∷ 300 ∷ 400 ∷ []) (short ∷ []) [] []
 
 abbrev pub inLine : State
@@ -51,7 +51,7 @@ abbrev pub ends : List Event
 ends = event completion 0 0 10 ∷ event completion 1 0 11 ∷ []
 
 -- ---- three processors, 0 long and 1 short: 1 holds 0 and 2 holds 1, then 0 asks for 0 and 1 asks for 1
-abbrev pub chaining : SetUp
+abbrev pub chaining : Setup
 chaining = given 3 0 (300 ∷ 200 ∷ 100 ∷ []) (long ∷ short ∷ []) [] []
 
 abbrev pub chained : State
@@ -60,7 +60,7 @@ chained = after chaining (plain (
     ∷ event asking 1 0 3 ∷ event asking 2 1 4 ∷ event asking 0 0 5 ∷ event asking 1 1 6 ∷ []))
 
 -- ---- two processors and three jobs
-abbrev pub crowding : SetUp
+abbrev pub crowding : Setup
 crowding = given 2 0 (100 ∷ 200 ∷ 50 ∷ []) [] [] []
 
 abbrev pub crowded : State
@@ -72,23 +72,23 @@ warmed = after crowding (record { prefers = λ _ _. 1; event = event arrival 0 0
 
 -- what the rules compute of them
 pub record Computed : Type 0 where
-  pub queueing-accepted : setUpRefusal queueing ≡ 0
+  pub queueing-accepted : setupRefusal queueing ≡ 0
   pub asks-accepted : judge inLine asks ≡ 0
   pub asks-short : kind (inLine .setup) 0 ≡ short
   pub asks-outer : shortOpen (inLine .setup) inLine 3 ≡ false
   pub asks-waits : (len (step inLine asks .state) 0 ≡ 3) × (waiter (step inLine asks .state) 0 2 ≡ 3)
   pub ends-done : completions (step inLine asks .state) (plain ends) 0 ≡ 2
-  pub chaining-accepted : setUpRefusal chaining ≡ 0
+  pub chaining-accepted : setupRefusal chaining ≡ 0
   pub first-link : (stand chained 0 ≡ suspended) × (holder chained (groupOf (chained .setup) (asked chained 0)) ≡ 1)
   pub second-link : (stand chained 1 ≡ spinning) × (holder chained (groupOf (chained .setup) (asked chained 1)) ≡ 2)
   pub chain-ends : stand chained 2 ≡ active
   pub chained-few : howMany (isRunnable chained) mostTasks ≡ 2
-  pub crowding-accepted : setUpRefusal crowding ≡ 0
+  pub crowding-accepted : setupRefusal crowding ≡ 0
   pub crowded-many : howMany (isRunnable crowded) mostTasks ≡ 3
   pub warmed-there : link (warmed .processors) 1 ≡ 0
 
 pub computed : Computed
-unfolding allBelow anyBelow first best better table waiting queued empty appended movedUp withoutFirst placeOf tidyAt isTidy rankOf modeOf linkOf runOf noneLinked lowestFree lowestLinked displacing arrivingOn taken linking becomingPreemptable nextTask filling refilling leavingFrom leaving givingWay linkHolds runHolds processorHolds linksHigher taskHolds isPlaced setUpRows setUpRefusal joinedBy namesAfter names groupOf below cleared emptyFrom isClear fieldsOf stand asked deadline depth request holder len waiter own leastOf longHeld effective shortOpen jobs situation clockSound timesSound requestsSound waitingSound groupSound emptySound sound misplaced eventRows judge openOfKind opens queues closes frees calls passes arrives leaves softens givesWay arriveEvent finishEvent requestEvent completeEvent charged act stepBy step runBy run fresh begin howMany handsOver completions
+unfolding allBelow anyBelow first best better table waiting queued empty appended movedUp withoutFirst placeOf tidyAt isTidy rankOf modeOf linkOf runOf noneLinked lowestFree lowestLinked displacing arrivingOn taken linking becomingPreemptable nextTask filling refilling leavingFrom leaving givingWay isPlaced setupRows setupRefusal joinedBy namesAfter names groupOf below cleared emptyFrom isClear fieldsOf stand asked deadline depth request holder len waiter own leastOf longHeld effective shortOpen jobs situation clockSound timesSound requestsSound waitingSound groupSound emptySound sound misplaced eventRows judge openOfKind opens enqueues closes frees dequeues passes arrives leaves becomesPreemptable givesWay arriveEvent finishEvent requestEvent completeEvent charged act stepBy step runBy run fresh begin howMany handsOver completions
 computed = record {
   queueing-accepted = refl;
   asks-accepted = refl;

@@ -14,21 +14,21 @@ use Rattle.queue.specs.Waiting.{waiting, waiter as queued, empty, appended, mov
 use Rattle.processors.specs.Words.{runs, rankOf, modeOf, linkOf, runOf, noneLinked}
 use Rattle.scheduler.specs.Arriving.{lowestFree, lowestLinked, displacing, arrivingOn, taken, arriving as linking}
 use Rattle.scheduler.specs.Leaving.{becomingPreemptable, nextTask, filling, refilling, leavingFrom, leaving, givingWay}
-use Rattle.placement.specs.PlacedTest.{linkHolds, runHolds, processorHolds, linksHigher, taskHolds, isPlaced}
-use Rattle.input.specs.Limits.{mostTasks, mostResources, mostPairs}
-use Rattle.setups.specs.Refusals.{setUpRows, setUpRefusal}
+use Rattle.scheduler.specs.PlacedTest.{isPlaced}
+use Rattle.numbers.specs.Limits.{mostTasks, mostResources, mostPairs, nobody}
+use Rattle.setups.specs.Refusals.{setupRows, setupRefusal}
 use Rattle.setups.specs.Naming.{joinedBy, namesAfter, names, groupOf}
 use Rattle.setups.specs.Clearing.{below, cleared, emptyFrom, isClear}
 use Rattle.input.specs.Kinds.{fieldsOf}
-use Rattle.input.specs.declared.SetUp.{SetUp}
+use Rattle.input.specs.declared.Setup.{Setup}
 use Rattle.input.specs.declared.Event.{Event}
-use Rattle.protocol.specs.Words.{nobody, task, stand, asked, deadline, depth, request, holder, len, waiter}
+use Rattle.protocol.specs.Words.{task, stand, asked, deadline, depth, request, holder, len, waiter}
 use Rattle.protocol.specs.Ranks.{own, leastOf, longHeld, effective, shortOpen, jobs}
 use Rattle.protocol.specs.Situations.{situation}
 use Rattle.protocol.specs.Sound.{clockSound, timesSound, requestsSound, waitingSound, groupSound, emptySound, sound}
 use Rattle.protocol.specs.Refusals.{misplaced, eventRows, judge}
-use Rattle.protocol.specs.Locks.{openOfKind, opens, queues, closes, frees, calls, passes}
-use Rattle.protocol.specs.Events.{arrives, leaves, softens, givesWay, arriveEvent, finishEvent, requestEvent, completeEvent, charged, act, stepBy, step, fresh, begin}
+use Rattle.protocol.specs.Locks.{openOfKind, opens, enqueues, closes, frees, dequeues, passes}
+use Rattle.protocol.specs.Events.{arrives, leaves, becomesPreemptable, givesWay, arriveEvent, finishEvent, requestEvent, completeEvent, charged, act, stepBy, step, fresh, begin}
 use Rattle.protocol.specs.declared.State.{State}
 use Rattle.protocol.specs.declared.Reply.{Reply}
 
@@ -41,7 +41,7 @@ record Line : Type 0 where
 
 -- a set-up, the names of its resources' groups, the events, and each task's five totals at the end
 record Case : Type 0 where
-  setup : SetUp
+  setup : Setup
   groups : List ℕ
   lines : List Line
   totals : List (List ℕ)
@@ -81,7 +81,7 @@ abbrev filled : ℕ → List ℕ → List ℕ
 filled n xs = xs ++ replicate (n - length xs) 0
 
 -- processors, start, periods, kinds, and the pairs' outer and inner resources
-abbrev pub given : ℕ → ℕ → List ℕ → List ℕ → List ℕ → List ℕ → SetUp
+abbrev pub given : ℕ → ℕ → List ℕ → List ℕ → List ℕ → List ℕ → Setup
 given m start periods kinds outer inner = record {
   processors = m;
   tasks = length periods;
@@ -107,7 +107,7 @@ two a b = a ∷ b ∷ []
 abbrev one : ℕ → List ℕ
 one a = a ∷ []
 
-abbrev pub printed : SetUp
+abbrev pub printed : Setup
 printed = given 2 65530 (100 ∷ 200 ∷ 50 ∷ []) (one 0) [] []
 
 -- the first four steps of the printed case
@@ -170,7 +170,7 @@ cases =
     ∷ []
 
 pub cases-hold : all holds cases ≡ true
-unfolding allBelow anyBelow first best better table waiting queued empty appended movedUp withoutFirst placeOf tidyAt isTidy rankOf modeOf linkOf runOf noneLinked lowestFree lowestLinked displacing arrivingOn taken linking becomingPreemptable nextTask filling refilling leavingFrom leaving givingWay linkHolds runHolds processorHolds linksHigher taskHolds isPlaced setUpRows setUpRefusal joinedBy namesAfter names groupOf below cleared emptyFrom isClear fieldsOf stand asked deadline depth request holder len waiter own leastOf longHeld effective shortOpen jobs situation clockSound timesSound requestsSound waitingSound groupSound emptySound sound misplaced eventRows judge openOfKind opens queues closes frees calls passes arrives leaves softens givesWay arriveEvent finishEvent requestEvent completeEvent charged act stepBy step fresh begin
+unfolding allBelow anyBelow first best better table waiting queued empty appended movedUp withoutFirst placeOf tidyAt isTidy rankOf modeOf linkOf runOf noneLinked lowestFree lowestLinked displacing arrivingOn taken linking becomingPreemptable nextTask filling refilling leavingFrom leaving givingWay isPlaced setupRows setupRefusal joinedBy namesAfter names groupOf below cleared emptyFrom isClear fieldsOf stand asked deadline depth request holder len waiter own leastOf longHeld effective shortOpen jobs situation clockSound timesSound requestsSound waitingSound groupSound emptySound sound misplaced eventRows judge openOfKind opens enqueues closes frees dequeues passes arrives leaves becomesPreemptable givesWay arriveEvent finishEvent requestEvent completeEvent charged act stepBy step fresh begin
 cases-hold = refl
 
 -- the first two events of the printed case, and what the rules answer to each
@@ -190,7 +190,7 @@ abbrev pub reply₂ : Reply
 reply₂ = step (reply₁ .state) event₂
 
 -- what tells the replies apart: the first answer, and who runs on a processor
-pub told : (reply₁ .answer ≡ 0) × (runs (opening .processors) 0 ≡ 255) × (runs (reply₁ .state .processors) 0 ≡ 0)
+pub differences : (reply₁ .answer ≡ 0) × (runs (opening .processors) 0 ≡ 255) × (runs (reply₁ .state .processors) 0 ≡ 0)
     × (runs (reply₁ .state .processors) 1 ≡ 255) × (runs (reply₂ .state .processors) 1 ≡ 1)
-unfolding allBelow anyBelow first best better table waiting queued empty appended movedUp withoutFirst placeOf tidyAt isTidy rankOf modeOf linkOf runOf noneLinked lowestFree lowestLinked displacing arrivingOn taken linking becomingPreemptable nextTask filling refilling leavingFrom leaving givingWay linkHolds runHolds processorHolds linksHigher taskHolds isPlaced setUpRows setUpRefusal joinedBy namesAfter names groupOf below cleared emptyFrom isClear fieldsOf stand asked deadline depth request holder len waiter own leastOf longHeld effective shortOpen jobs situation clockSound timesSound requestsSound waitingSound groupSound emptySound sound misplaced eventRows judge openOfKind opens queues closes frees calls passes arrives leaves softens givesWay arriveEvent finishEvent requestEvent completeEvent charged act stepBy step fresh begin
-told = (refl, refl, refl, refl, refl)
+unfolding allBelow anyBelow first best better table waiting queued empty appended movedUp withoutFirst placeOf tidyAt isTidy rankOf modeOf linkOf runOf noneLinked lowestFree lowestLinked displacing arrivingOn taken linking becomingPreemptable nextTask filling refilling leavingFrom leaving givingWay isPlaced setupRows setupRefusal joinedBy namesAfter names groupOf below cleared emptyFrom isClear fieldsOf stand asked deadline depth request holder len waiter own leastOf longHeld effective shortOpen jobs situation clockSound timesSound requestsSound waitingSound groupSound emptySound sound misplaced eventRows judge openOfKind opens enqueues closes frees dequeues passes arrives leaves becomesPreemptable givesWay arriveEvent finishEvent requestEvent completeEvent charged act stepBy step fresh begin
+differences = (refl, refl, refl, refl, refl)

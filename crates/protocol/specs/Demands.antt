@@ -10,19 +10,19 @@ use lib.Dec.{ltb}
 use lib.ListN.{getD, set}
 use Rattle.search.specs.Words.{if_then_else_, _is_, _isn't_}
 use Rattle.search.specs.Below.{howMany}
-use Rattle.processors.specs.Limits.{processors}
+use Rattle.numbers.specs.Limits.{mostProcessors, mostTasks, nobody}
 use Rattle.processors.specs.Words.{link, runs}
 use Rattle.scheduler.specs.Placed.{Sized, Settled}
-use Rattle.placement.specs.PlacedTest.{isPlaced}
-use Rattle.input.specs.Limits.{mostTasks, short}
+use Rattle.scheduler.specs.PlacedTest.{isPlaced}
+use Rattle.input.specs.Kinds.{short, arrival, finish, request as asking, completion}
 use Rattle.input.specs.Words.{kind}
-use Rattle.setups.specs.Refusals.{setUpRefusal}
+use Rattle.setups.specs.Refusals.{setupRefusal}
 use Rattle.setups.specs.Naming.{groupOf}
 use Rattle.setups.specs.Clearing.{isClear}
-use Rattle.input.specs.Kinds.{arrival, finish, request as asking, completion}
-use Rattle.input.specs.declared.SetUp.{SetUp}
+use Rattle.input.specs.declared.Setup.{Setup}
 use Rattle.input.specs.declared.Event.{Event}
-use Rattle.protocol.specs.Words.{nobody, lastClock, absent, active, spinning, suspended, sum, task, stand, asked, depth, request, holder, len, waiter, group, noTask, noGroup}
+use Rattle.protocol.specs.Words.{lastClock, absent, active, spinning, suspended, sum, task, stand, asked, depth, request, holder, len, waiter, group}
+use Rattle.protocol.specs.Records.{noTask, noGroup}
 use Rattle.protocol.specs.Sound.{sound}
 use Rattle.protocol.specs.Ranks.{shortOpen, effective, jobs}
 use Rattle.protocol.specs.Situations.{situation, totalOf}
@@ -33,8 +33,8 @@ use Rattle.protocol.specs.declared.State.{State}
 
 -- ---- every run: an accepted set-up, and any events, refused ones among them, each with any suggestion of a processor
 -- where someone arrives or resumes. (A start has four bytes.)
-pub record Given (c : SetUp) : Type 0 where
-  pub accepted : setUpRefusal c ≡ 0
+pub record Given (c : Setup) : Type 0 where
+  pub accepted : setupRefusal c ≡ 0
   pub start : c .start ≤ lastClock
 
 -- e is accepted in s, and is of a kind
@@ -62,7 +62,7 @@ PrioritiesApart s = (t u : ℕ) → t < mostTasks → u < mostTasks → isRunnab
 pub record LinksHighest (s : State) (m : ℕ) : Type 0 where
   pub highest : (t : ℕ) → t < mostTasks → Linked s t ↔ ((isRunnable s t ≡ true) × (howMany (isAhead s t) mostTasks < m))
   pub once : (k i : ℕ) → link (s .processors) k ≢ nobody → link (s .processors) k ≡ link (s .processors) i → k ≡ i
-  pub many : howMany (λ k. link (s .processors) k isn't nobody) processors ≡ min m (howMany (isRunnable s) mostTasks)
+  pub many : howMany (λ k. link (s .processors) k isn't nobody) mostProcessors ≡ min m (howMany (isRunnable s) mostTasks)
 
 -- what the sound state asks of links and placements: what is settled of them, clause by clause, and linked jobs as above
 abbrev pub PlacedAsDemanded : Type 0
@@ -127,7 +127,7 @@ ShortQueues s m = (pick : Prefers) (e : Event) → judge s e ≡ 0 → e .kind �
     → kind (s .setup) (e .resource) ≡ short → shortOpen (s .setup) s (e .task) ≡ false → ShortQueue s pick e m
 
 -- ---- demand 3, of the state after some events
-pub record Demand3 (c : SetUp) (ms : List Move) : Type 0 where
+pub record Demand3 (c : Setup) (ms : List Move) : Type 0 where
   pub links : LinksHighest (after c ms) (c .processors)
   pub apart : PrioritiesApart (after c ms)
   pub holders : OneHolder (after c ms)
@@ -148,7 +148,7 @@ pendingTicks s (m ∷ ms) t pending since =
     else pendingTicks next ms t pending since
 
 -- the five totals sum to them; nobody is pending at the start
-abbrev pub TotalsSum : SetUp → List Move → Type 0
+abbrev pub TotalsSum : Setup → List Move → Type 0
 TotalsSum c ms = (t : ℕ) → sum (task (after c ms) t .totals) ≡ pendingTicks (begin c .state) ms t false 0
 
 -- an accepted step's ticks go, for a pending task, to the one total of its situation before the event; else nowhere
@@ -160,8 +160,8 @@ Charges s pick e t =
     ≡ (if stand s t isn't absent then set before i (getD before i 0 + stepOf s e) else before)
 
 -- ---- the theorems: each of the above, of every run from an accepted set-up
-abbrev pub Always : (SetUp → List Move → Type 0) → Type 0
-Always P = (c : SetUp) → Given c → (ms : List Move) → P c ms
+abbrev pub Always : (Setup → List Move → Type 0) → Type 0
+Always P = (c : Setup) → Given c → (ms : List Move) → P c ms
 
 abbrev pub AlwaysSound : Type 0
 AlwaysSound = Always (λ c ms. sound (after c ms) ≡ true)
@@ -196,4 +196,4 @@ pub record IsEmpty (s : State) : Type 0 where
   pub groups : (g : ℕ) → group s g ≡ noGroup
 
 abbrev pub RefusedIsEmpty : Type 0
-RefusedIsEmpty = (c : SetUp) → setUpRefusal c ≢ 0 → (begin c .answer ≡ setUpRefusal c) × IsEmpty (begin c .state)
+RefusedIsEmpty = (c : Setup) → setupRefusal c ≢ 0 → (begin c .answer ≡ setupRefusal c) × IsEmpty (begin c .state)

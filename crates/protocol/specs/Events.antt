@@ -6,43 +6,42 @@ use lib.ListN.{getD, set, take, replicate}
 use Rattle.search.specs.Words.{if_then_else_, _is_, _isn't_}
 use Rattle.search.specs.Table.{table}
 use Rattle.processors.specs.Words.{noneLinked}
-use Rattle.processors.specs.declared.Processors.{Processors}
 use Rattle.scheduler.specs.Arriving.{arriving as linking}
 use Rattle.scheduler.specs.Leaving.{becomingPreemptable, leaving, givingWay}
-use Rattle.input.specs.Limits.{mostTasks, mostResources, short}
-use Rattle.input.specs.Words.{kind, noSetUp}
-use Rattle.setups.specs.Refusals.{setUpRefusal}
+use Rattle.numbers.specs.Limits.{mostTasks, mostResources, nobody}
+use Rattle.input.specs.Kinds.{short, arrival, finish, request as asking, completion, noEvent}
+use Rattle.input.specs.Words.{kind, noSetup}
+use Rattle.setups.specs.Refusals.{setupRefusal}
 use Rattle.setups.specs.Naming.{groupOf}
 use Rattle.setups.specs.Clearing.{cleared}
-use Rattle.input.specs.Kinds.{arrival, finish, request as asking, completion, noEvent}
-use Rattle.input.specs.declared.SetUp.{SetUp}
+use Rattle.input.specs.declared.Setup.{Setup}
 use Rattle.input.specs.declared.Event.{Event}
-use Rattle.protocol.specs.Words.{nobody, absent, noTask, noGroup, task, stand, holder, len}
+use Rattle.protocol.specs.Records.{noTask, noGroup, withTotals, withClock, withTasks, withProcessors}
+use Rattle.protocol.specs.Words.{absent, task, stand, holder, len}
 use Rattle.protocol.specs.Ranks.{jobs}
 use Rattle.protocol.specs.Situations.{situation, totalOf}
 use Rattle.protocol.specs.Refusals.{stepOf, judge}
-use Rattle.protocol.specs.Locks.{openOfKind, opens, queues, closes, frees, nextAt, passes, arriveEdit, finishEdit}
+use Rattle.protocol.specs.Locks.{openOfKind, opens, enqueues, closes, frees, nextAt, passes, arriveEdit, finishEdit}
 use Rattle.protocol.specs.declared.Task.{Task}
 use Rattle.protocol.specs.declared.State.{State}
 use Rattle.protocol.specs.declared.Reply.{Reply}
 
--- ---- the scheduler's moves, told the jobs of s
-abbrev pub withProcessors : Processors → State → State
-withProcessors p s = record { setup = s .setup; clock = s .clock; tasks = s .tasks; groups = s .groups; processors = p }
-
-module _ (c : SetUp) (t : ℕ) (s : State) where
-  -- t finishes or suspends; becomes preemptable; gives way
+-- ---- the scheduler's moves, with the jobs of s
+module _ (c : Setup) (t : ℕ) (s : State) where
+  -- t finishes or suspends
   unfoldable pub leaves : State
   leaves = withProcessors (leaving (s .processors) (jobs c s) t) s
 
-  unfoldable pub softens : State
-  softens = withProcessors (becomingPreemptable (s .processors) t) s
+  -- t becomes preemptable
+  unfoldable pub becomesPreemptable : State
+  becomesPreemptable = withProcessors (becomingPreemptable (s .processors) t) s
 
+  -- t gives way
   unfoldable pub givesWay : State
   givesWay = withProcessors (givingWay (s .processors) (jobs c s) t) s
 
 -- ---- finish and request
-module _ (c : SetUp) (t : ℕ) where
+module _ (c : Setup) (t : ℕ) where
   unfoldable pub finishEvent : State → State
   finishEvent s = leaves c t (finishEdit t s)
 
@@ -52,30 +51,20 @@ module _ (c : SetUp) (t : ℕ) where
   requestEvent r s =
       let g = groupOf c r in
       if openOfKind c s t r || holder s g is nobody then opens t r g s
-      else if kind c r is short then queues c t r g s
-      else leaves c t (queues c t r g s)
+      else if kind c r is short then enqueues c t r g s
+      else leaves c t (enqueues c t r g s)
 
--- Tick totals: each pending task's ticks go to the total of its situation before the event.
+-- ---- tick totals: each pending task's ticks go to the total of its situation before the event
+-- n ticks more in total i
 abbrev pub counting : ℕ → ℕ → Task → Task
-counting i n t = record {
-  standing = t .standing;
-  deadline = t .deadline;
-  arrived = t .arrived;
-  last = t .last;
-  requests = t .requests;
-  depth = t .depth;
-  totals = set (t .totals) i (getD (t .totals) i 0 + n);
-}
+counting i n t = withTotals (set (t .totals) i (getD (t .totals) i 0 + n)) t
 
+-- and the clock goes on by as many
 unfoldable pub charged : ℕ → State → State
-charged n s = record {
-  setup = s .setup;
-  clock = s .clock + n;
-  tasks = table
-      (λ t. if stand s t isn't absent then counting (totalOf (situation s t)) n (task s t) else task s t) mostTasks;
-  groups = s .groups;
-  processors = s .processors;
-}
+charged n s =
+    withClock (s .clock + n) (withTasks
+    (table (λ t. if stand s t isn't absent then counting (totalOf (situation s t)) n (task s t) else task s t) mostTasks)
+    s)
 
 -- ---- who arrives or resumes, and a whole step
 -- a processor suggested to a task in a state; document 01 suggests none, and the lowest-numbered unlinked one is taken
@@ -87,27 +76,27 @@ cold s t = nobody
 
 module _ (pick : Prefers) where
   -- t arrives or resumes
-  unfoldable pub arrives : SetUp → ℕ → State → State
+  unfoldable pub arrives : Setup → ℕ → State → State
   arrives c t s = withProcessors (linking (s .processors) (jobs c s) t (pick s t)) s
 
-  unfoldable pub arriveEvent : SetUp → ℕ → State → State
+  unfoldable pub arriveEvent : Setup → ℕ → State → State
   arriveEvent c t s = arrives c t (arriveEdit c t s)
 
   -- Completion. Inner: the request is closed, no more. Outermost short: the queue's first job becomes holder, then the
   -- completer becomes preemptable. Outermost long: the completer's priority is restored, as the group is free, and it
   -- gives way; then the queue's first job becomes holder and resumes.
-  unfoldable pub completeEvent : SetUp → ℕ → ℕ → State → State
+  unfoldable pub completeEvent : Setup → ℕ → ℕ → State → State
   completeEvent c t r s =
       let g = groupOf c r in
       let closed = closes t s in
       let freed = frees g closed in
       if openOfKind c closed t r then closed
-      else if kind c r is short then softens c t (if len s g is 0 then freed else passes g freed)
+      else if kind c r is short then becomesPreemptable c t (if len s g is 0 then freed else passes g freed)
       else if len s g is 0 then givesWay c t freed
       else arrives c (nextAt s g) (passes g (givesWay c t freed))
 
   -- an accepted event, on the state charged with its ticks
-  unfoldable pub act : SetUp → Event → State → State
+  unfoldable pub act : Setup → Event → State → State
   act c e s =
       if e .kind is arrival then arriveEvent c (e .task) s
       else if e .kind is finish then finishEvent c (e .task) s
@@ -143,8 +132,9 @@ plain es = map (λ e. record { prefers = cold; event = e }) es
 unfoldable pub run : State → List Event → State
 run s es = runBy s (plain es)
 
--- ---- what a set-up gives: nobody has arrived; a refused one gives an empty state
-unfoldable pub fresh : SetUp → State
+-- ---- what a set-up gives
+-- nobody has arrived
+unfoldable pub fresh : Setup → State
 fresh c = record {
   setup = c;
   clock = c .start;
@@ -153,13 +143,14 @@ fresh c = record {
   processors = noneLinked (c .processors);
 }
 
-unfoldable pub begin : SetUp → Reply
+-- a refused set-up gives an empty state
+unfoldable pub begin : Setup → Reply
 begin c =
-    if setUpRefusal c is 0 then record { answer = 0; state = fresh (cleared c) }
-    else record { answer = setUpRefusal c; state = fresh noSetUp }
+    if setupRefusal c is 0 then record { answer = 0; state = fresh (cleared c) }
+    else record { answer = setupRefusal c; state = fresh noSetup }
 
 -- ---- from a set-up on: the state after some moves; of events alone, the answer to the n-th, after those before it
-abbrev pub after : SetUp → List Move → State
+abbrev pub after : Setup → List Move → State
 after c ms = runBy (begin c .state) ms
 
 abbrev pub replyAt : State → List Event → ℕ → Reply

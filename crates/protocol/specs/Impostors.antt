@@ -9,7 +9,7 @@ use Rattle.input.specs.declared.Event.{Event}
 use Rattle.protocol.specs.Events.{step}
 use Rattle.protocol.specs.declared.State.{State}
 use Rattle.protocol.specs.declared.Reply.{Reply}
-use Rattle.protocol.specs.Cases.{opening, event₁, event₂, reply₁, reply₂, told}
+use Rattle.protocol.specs.Cases.{opening, event₁, event₂, reply₁, reply₂, differences}
 
 -- refuses everything, with whichever number
 abbrev pub refusing : ℕ → Reply → State → Event → Reply
@@ -32,14 +32,14 @@ on k r = runs (r .state .processors) k
 
 -- at step 1
 pub refusing-differs : (n : ℕ) → n ≢ 0 → refusing n reply₁ opening event₁ ≢ reply₁
-refusing-differs n d e = d (omega (arith, told .0, ap (λ (r : Reply). r .answer) e))
+refusing-differs n d e = d (omega (arith, differences .0, ap (λ (r : Reply). r .answer) e))
 
 pub idling-differs : idling reply₁ opening event₁ ≢ reply₁
-idling-differs e = omega (arith, told .1, told .2, ap (on 0) e)
+idling-differs e = omega (arith, differences .1, differences .2, ap (on 0) e)
 
 -- at step 2
 pub repeating-differs : repeating reply₁ (reply₁ .state) event₂ ≢ reply₂
-repeating-differs e = omega (arith, told .3, told .4, ap (on 1) e)
+repeating-differs e = omega (arith, differences .3, differences .4, ap (on 1) e)
 
 pub claiming-differs : claiming reply₁ (reply₁ .state) event₂ ≢ reply₂
-claiming-differs e = omega (arith, told .3, told .4, ap (on 1) e)
+claiming-differs e = omega (arith, differences .3, differences .4, ap (on 1) e)

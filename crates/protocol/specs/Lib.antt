@@ -1,3 +1,4 @@
+pub mod Records
 pub mod Words
 pub mod Ranks
 pub mod Situations

@@ -6,12 +6,13 @@ use Rattle.search.specs.Words.{_is_}
 use Rattle.search.specs.Below.{anyBelow}
 use Rattle.search.specs.First.{first}
 use Rattle.search.specs.Table.{table}
-use Rattle.processors.specs.Limits.{off, preemptable, nonPreemptable}
-use Rattle.processors.specs.Words.{told}
+use Rattle.processors.specs.Modes.{off, preemptable, nonPreemptable}
+use Rattle.processors.specs.Words.{jobsFrom}
 use Rattle.processors.specs.declared.Jobs.{Jobs}
-use Rattle.input.specs.Limits.{mostTasks, short, long}
+use Rattle.numbers.specs.Limits.{mostTasks}
+use Rattle.input.specs.Kinds.{short, long}
 use Rattle.input.specs.Words.{kind}
-use Rattle.input.specs.declared.SetUp.{SetUp}
+use Rattle.input.specs.declared.Setup.{Setup}
 use Rattle.protocol.specs.Words.{task, deadline, depth, request, holder, len, waiter}
 use Rattle.protocol.specs.declared.Lock.the-variants.{Short, Long}
 use Rattle.protocol.specs.declared.Standing.{Standing}
@@ -35,7 +36,7 @@ modeFor Active false = preemptable
 modeFor (Waiting (Short r)) holds = nonPreemptable
 modeFor (Waiting (Long r)) holds = off
 
-module _ (c : SetUp) (s : State) where
+module _ (c : Setup) (s : State) where
   -- the long group that t holds, or the number past the last resource
   unfoldable pub longHeld : ℕ → ℕ
   longHeld t = first (λ g. kind c g is long && holder s g is t) 0 (c .resources)
@@ -49,4 +50,4 @@ module _ (c : SetUp) (s : State) where
   shortOpen t = anyBelow (depth s t) (λ i. kind c (request s t i) is short)
 
   unfoldable pub jobs : Jobs
-  jobs = told (table effective mostTasks) (table (λ t. modeFor (task s t .standing) (shortOpen t)) mostTasks)
+  jobs = jobsFrom (table effective mostTasks) (table (λ t. modeFor (task s t .standing) (shortOpen t)) mostTasks)

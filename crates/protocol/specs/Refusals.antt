@@ -5,15 +5,16 @@ use mathlib.Core.List.{List, [], _++_}
 use lib.Dec.{leb, ltb}
 use Rattle.search.specs.Words.{_is_, _isn't_}
 use Rattle.search.specs.Below.{anyBelow}
-use Rattle.search.specs.Rows.{Row, _when_, _otherwise_, firstOf}
-use Rattle.input.specs.Limits.{short, long}
+use Rattle.numbers.specs.Refusals.{notSound, eventUnknown, taskUnknown, resourceUnknown, fieldUnused, stepBackward, clockPastEnd, alreadyPending, arrivesEarly, notPending, onNoProcessor, isSpinning, finishesOpen, alreadyOpen, wronglyNested, tooManyOpen, notNewest}
+use Rattle.numbers.specs.Rows.{Row, _when_, _otherwise_, firstOf}
+use Rattle.input.specs.Kinds.{short, long, arrival, finish, request as asking, completion, passing, fieldsOf}
 use Rattle.input.specs.Words.{within, period, kind}
 use Rattle.setups.specs.Naming.{groupOf}
-use Rattle.input.specs.Kinds.{arrival, finish, request as asking, completion, passing, fieldsOf}
-use Rattle.input.specs.declared.SetUp.{SetUp}
+use Rattle.input.specs.declared.Setup.{Setup}
 use Rattle.input.specs.declared.Event.{Event}
-use Rattle.protocol.specs.Words.{mostRequests, lastClock, absent, task, stand, depth, request}
-use Rattle.protocol.specs.Situations.{situation, hindrance}
+use Rattle.numbers.specs.Limits.{mostRequests}
+use Rattle.protocol.specs.Words.{lastClock, absent, task, stand, depth, request}
+use Rattle.protocol.specs.Situations.{situation, situationRefusal}
 use Rattle.protocol.specs.Sound.{sound}
 use Rattle.protocol.specs.declared.State.{State}
 
@@ -32,7 +33,7 @@ stepOf s e = ticksTo (s .clock) (e .tick)
 abbrev pub clockAfter : State → Event → ℕ
 clockAfter s e = s .clock + stepOf s e
 
-module _ (c : SetUp) (s : State) (t r : ℕ) where
+module _ (c : Setup) (s : State) (t r : ℕ) where
   -- long while a short is open, or same kind open in another group
   unfoldable pub misplaced : Bool
   misplaced = anyBelow (depth s t) (λ i.
@@ -43,10 +44,10 @@ module _ (c : SetUp) (s : State) (t r : ℕ) where
 abbrev pub fieldRows : ℕ → ℕ → Event → List Row
 fieldRows tasks resources e =
     let uses = fieldsOf (e .kind) in
-    10 when not (within arrival (e .kind) passing) otherwise
-    11 when uses .task && leb tasks (e .task) otherwise
-    12 when uses .resource && leb resources (e .resource) otherwise
-    13 when (not (uses .task) && e .task isn't 0) || (not (uses .resource) && e .resource isn't 0) otherwise
+    eventUnknown when not (within arrival (e .kind) passing) otherwise
+    taskUnknown when uses .task && leb tasks (e .task) otherwise
+    resourceUnknown when uses .resource && leb resources (e .resource) otherwise
+    fieldUnused when (not (uses .task) && e .task isn't 0) || (not (uses .resource) && e .resource isn't 0) otherwise
     []
 
 unfoldable pub eventRows : State → Event → List Row
@@ -55,22 +56,22 @@ eventRows s e =
     let t = e .task in
     let r = e .resource in
     let acts = within finish (e .kind) completion in
-    let hinders = hindrance (situation s t) in
-    9 when not (sound s) otherwise
+    let hinders = situationRefusal (situation s t) in
+    notSound when not (sound s) otherwise
     -- 10 to 13, by the fields alone
     fieldRows (c .tasks) (c .resources) e ++ (
-    14 when leb 32768 (stepOf s e) otherwise
-    15 when ltb lastClock (clockAfter s e) otherwise
-    16 when e .kind is arrival && stand s t isn't absent otherwise
-    17 when e .kind is arrival && task s t .arrived && ltb (clockAfter s e) (task s t .last + period c t) otherwise
-    18 when acts && hinders is 18 otherwise
-    19 when acts && hinders is 19 otherwise
-    20 when acts && hinders is 20 otherwise
-    21 when e .kind is finish && depth s t isn't 0 otherwise
-    22 when e .kind is asking && anyBelow (depth s t) (λ i. request s t i is r) otherwise
-    23 when e .kind is asking && misplaced c s t r otherwise
-    24 when e .kind is asking && depth s t is mostRequests otherwise
-    25 when e .kind is completion && (depth s t is 0 || request s t (depth s t - 1) isn't r) otherwise
+    stepBackward when leb 32768 (stepOf s e) otherwise
+    clockPastEnd when ltb lastClock (clockAfter s e) otherwise
+    alreadyPending when e .kind is arrival && stand s t isn't absent otherwise
+    arrivesEarly when e .kind is arrival && task s t .arrived && ltb (clockAfter s e) (task s t .last + period c t) otherwise
+    notPending when acts && hinders is notPending otherwise
+    onNoProcessor when acts && hinders is onNoProcessor otherwise
+    isSpinning when acts && hinders is isSpinning otherwise
+    finishesOpen when e .kind is finish && depth s t isn't 0 otherwise
+    alreadyOpen when e .kind is asking && anyBelow (depth s t) (λ i. request s t i is r) otherwise
+    wronglyNested when e .kind is asking && misplaced c s t r otherwise
+    tooManyOpen when e .kind is asking && depth s t is mostRequests otherwise
+    notNewest when e .kind is completion && (depth s t is 0 || request s t (depth s t - 1) isn't r) otherwise
     [])
 
 -- the first refusal that applies, or 0

@@ -2,10 +2,12 @@
 use Prim.Native.Nat.{ℕ}
 use lib.Dec.{ltb}
 use Rattle.search.specs.Words.{if_then_else_, _is_}
-use Rattle.processors.specs.Limits.{processors}
+use Rattle.numbers.specs.Refusals.{notPending, onNoProcessor, isSpinning}
+use Rattle.numbers.specs.Limits.{mostProcessors}
 use Rattle.processors.specs.Words.{linkOf, runOf}
 use Rattle.processors.specs.declared.Processors.{Processors}
-use Rattle.protocol.specs.Words.{totalCount, absent, spinning, suspended, stand}
+use Rattle.protocol.specs.Records.{totalCount}
+use Rattle.protocol.specs.Words.{absent, spinning, suspended, stand}
 use Rattle.protocol.specs.declared.Situation.{Situation}
 use Rattle.protocol.specs.declared.Situation.the-variants.{NoJob, Running, Spinning, LinkedOnly, Ready, Suspended}
 use Rattle.protocol.specs.declared.State.{State}
@@ -15,8 +17,8 @@ abbrev pub situationOf : ℕ → Processors → ℕ → Situation
 situationOf standing p t =
     if standing is absent then NoJob
     else if standing is suspended then Suspended
-    else if ltb (runOf p t) processors then (if standing is spinning then Spinning else Running)
-    else if ltb (linkOf p t) processors then LinkedOnly
+    else if ltb (runOf p t) mostProcessors then (if standing is spinning then Spinning else Running)
+    else if ltb (linkOf p t) mostProcessors then LinkedOnly
     else Ready
 
 unfoldable pub situation : State → ℕ → Situation
@@ -36,10 +38,10 @@ totalOf Suspended = directBlocking
 totalOf NoJob = totalCount
 
 -- the refusals 18 to 20: no pending job, the job on no processor, the job spinning
-abbrev pub hindrance : Situation → ℕ
-hindrance NoJob = 18
-hindrance LinkedOnly = 19
-hindrance Ready = 19
-hindrance Suspended = 19
-hindrance Spinning = 20
-hindrance Running = 0
+abbrev pub situationRefusal : Situation → ℕ
+situationRefusal NoJob = notPending
+situationRefusal LinkedOnly = onNoProcessor
+situationRefusal Ready = onNoProcessor
+situationRefusal Suspended = onNoProcessor
+situationRefusal Spinning = isSpinning
+situationRefusal Running = 0

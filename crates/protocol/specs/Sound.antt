@@ -6,18 +6,19 @@ use Rattle.search.specs.Words.{_is_, _isn't_, _implies_}
 use Rattle.search.specs.Below.{allBelow, anyBelow}
 use Rattle.queue.specs.Limits.{capacity}
 use Rattle.queue.specs.Waiting.{placeOf, isTidy}
-use Rattle.placement.specs.PlacedTest.{isPlaced}
-use Rattle.input.specs.Limits.{mostTasks, mostResources, long}
-use Rattle.input.specs.Words.{period, kind}
-use Rattle.setups.specs.Refusals.{setUpRefusal}
+use Rattle.scheduler.specs.PlacedTest.{isPlaced}
+use Rattle.numbers.specs.Limits.{mostTasks, mostResources, mostRequests, nobody, nothing}
+use Rattle.input.specs.Kinds.{long}
+use Rattle.input.specs.Words.{dueAt, kind}
+use Rattle.setups.specs.Refusals.{setupRefusal}
 use Rattle.setups.specs.Naming.{groupOf}
 use Rattle.setups.specs.Clearing.{isClear}
-use Rattle.input.specs.declared.SetUp.{SetUp}
-use Rattle.protocol.specs.Words.{mostRequests, nobody, lastClock, sum, absent, spinning, suspended, task, group, stand, asked, deadline, depth, request, holder, len, waiter}
+use Rattle.input.specs.declared.Setup.{Setup}
+use Rattle.protocol.specs.Words.{lastClock, sum, absent, spinning, suspended, task, group, stand, asked, deadline, depth, request, holder, len, waiter}
 use Rattle.protocol.specs.Ranks.{jobs}
 use Rattle.protocol.specs.declared.State.{State}
 
-module _ (c : SetUp) (s : State) where
+module _ (c : Setup) (s : State) where
   -- start at most the clock, and the clock within its end
   unfoldable pub clockSound : Bool
   clockSound = leb (c .start) (s .clock) && leb (s .clock) lastClock
@@ -27,53 +28,66 @@ module _ (c : SetUp) (s : State) where
   unfoldable pub timesSound : ℕ → Bool
   timesSound t =
       (task s t .arrived implies (leb (c .start) (task s t .last) && leb (task s t .last) (s .clock)))
-      && (stand s t isn't absent implies (task s t .arrived && deadline s t is task s t .last + period c t))
+      && (stand s t isn't absent implies (task s t .arrived && deadline s t is dueAt c t (task s t .last)))
       && (stand s t is absent implies deadline s t is 0)
       && leb (sum (task s t .totals)) (s .clock - c .start)
 
-  -- open requests are at most eight, distinct, longs before shorts, each kind within one group of which the job is holder;
-  -- only a pending job has some
+  -- the kind and the group of the i-th open request of t
+  abbrev requestKind : ℕ → ℕ → ℕ
+  requestKind t i = kind c (request s t i)
+
+  abbrev requestGroup : ℕ → ℕ → ℕ
+  requestGroup t i = groupOf c (request s t i)
+
+  -- open requests are at most eight, distinct, longs before shorts, each kind within one group of which the job is
+  -- holder; only a pending job has some
   unfoldable pub requestsSound : ℕ → Bool
   requestsSound t =
       leb (depth s t) mostRequests
-      && allBelow (depth s t) (λ i. ltb (request s t i) (c .resources) && holder s (groupOf c (request s t i)) is t)
+      && allBelow (depth s t) (λ i. ltb (request s t i) (c .resources) && holder s (requestGroup t i) is t)
       && allBelow (depth s t) (λ i. allBelow (depth s t) (λ k. request s t i is request s t k implies i is k))
-      && allBelow (depth s t) (λ i. kind c (request s t i) is long implies allBelow i (λ k. kind c (request s t k) is long))
-      && allBelow (depth s t) (λ i. allBelow (depth s t) (λ k. kind c (request s t i) is kind c (request s t k) implies groupOf c (request s t i) is groupOf c (request s t k)))
+      && allBelow (depth s t) (λ i. requestKind t i is long implies allBelow i (λ k. requestKind t k is long))
+      && allBelow (depth s t) (λ i. allBelow (depth s t) (λ k.
+      requestKind t i is requestKind t k implies requestGroup t i is requestGroup t k))
       && (stand s t is absent implies depth s t is 0)
 
-  -- a waiting job stands in the queue of what it asked, which it could have asked by 22 to 24; it has nothing open of the
-  -- kind it asked for, and one suspended holds nothing
+  -- a waiting job is in the queue of what it asked, which it could have asked by 22 to 24; it has nothing open of the kind
+  -- it asked for, and one suspended holds nothing
   unfoldable pub waitingSound : ℕ → Bool
   waitingSound t =
       leb spinning (stand s t) implies (
       ltb (asked s t) (c .resources)
       && stand s t is spinning + kind c (asked s t)
       && ltb (placeOf (group s (groupOf c (asked s t)) .queue) t) capacity
-      && allBelow (depth s t) (λ i. kind c (request s t i) isn't kind c (asked s t))
+      && allBelow (depth s t) (λ i. requestKind t i isn't kind c (asked s t))
       && (stand s t is suspended implies depth s t is 0)
       && ltb (depth s t) mostRequests)
 
   -- groups have no other holder; queues hold waiting jobs only, who asked there, each once; only held groups have queues
   unfoldable pub groupSound : ℕ → Bool
   groupSound g =
-      (holder s g isn't nobody implies anyBelow (depth s (holder s g)) (λ i. groupOf c (request s (holder s g) i) is g))
+      (holder s g isn't nobody implies anyBelow (depth s (holder s g)) (λ i. requestGroup (holder s g) i is g))
       && isTidy (group s g .queue)
       && allBelow (len s g) (λ i. leb spinning (stand s (waiter s g i)) && groupOf c (asked s (waiter s g i)) is g)
       && allBelow (len s g) (λ i. placeOf (group s g .queue) (waiter s g i) is i)
       && (holder s g is nobody implies len s g is 0)
 
+  -- task t never had a job
+  abbrev isUnused : ℕ → Bool
+  isUnused t = stand s t is absent && not (task s t .arrived) && task s t .last is 0 && sum (task s t .totals) is 0
+
   -- places beyond the counts are empty
   unfoldable pub emptySound : ℕ → Bool
   emptySound t =
-      allBelow mostRequests (λ i. leb (depth s t) i implies request s t i is nobody)
-      && (leb (c .tasks) t implies (stand s t is absent && not (task s t .arrived) && task s t .last is 0 && sum (task s t .totals) is 0))
+      allBelow mostRequests (λ i. leb (depth s t) i implies request s t i is nothing)
+      && (leb (c .tasks) t implies isUnused t)
 
 unfoldable pub sound : State → Bool
 sound s =
     let c = s .setup in
-    setUpRefusal c is 0 && isClear c
+    setupRefusal c is 0 && isClear c
     && clockSound c s && allBelow mostTasks (timesSound c s)
     && s .processors .count is c .processors && isPlaced (s .processors) (jobs c s)
-    && allBelow mostTasks (requestsSound c s) && allBelow mostTasks (waitingSound c s) && allBelow mostResources (groupSound c s)
+    && allBelow mostTasks (requestsSound c s) && allBelow mostTasks (waitingSound c s)
+    && allBelow mostResources (groupSound c s)
     && allBelow mostTasks (emptySound c s)

@@ -1,9 +1,10 @@
--- Words over a state: what a standing says, the parts of a state, and the empty records.
+-- Words over a state: what a standing says, and the parts of a state.
 use Prim.Native.Nat.{ℕ, _+_}
-use mathlib.Core.Bool.{false}
 use mathlib.Core.List.{List, [], _∷_}
-use lib.ListN.{getD, replicate}
-use Rattle.queue.specs.Waiting.{waiter as queued, empty}
+use lib.ListN.{getD}
+use Rattle.numbers.specs.Limits.{nothing}
+use Rattle.queue.specs.Waiting.{waiter as queued}
+use Rattle.protocol.specs.Records.{noTask, noGroup}
 use Rattle.protocol.specs.declared.Lock.the-variants.{Short, Long}
 use Rattle.protocol.specs.declared.Standing.{Standing}
 use Rattle.protocol.specs.declared.Standing.the-variants.{Absent, Active, Waiting}
@@ -11,16 +12,7 @@ use Rattle.protocol.specs.declared.Task.{Task}
 use Rattle.protocol.specs.declared.Group.{Group}
 use Rattle.protocol.specs.declared.State.{State}
 
--- `Task::REQUESTS` and `Task::TOTALS`; no task and no resource; the end of the exact clock
-abbrev pub mostRequests : ℕ
-mostRequests = 8
-
-abbrev pub totalCount : ℕ
-totalCount = 5
-
-abbrev pub nobody : ℕ
-nobody = 255
-
+-- the end of the exact clock
 abbrev pub lastClock : ℕ
 lastClock = 4294967295
 
@@ -49,17 +41,10 @@ standingNo (Waiting (Long r)) = suspended
 
 -- the resource that a waiting job asked for, or nothing
 abbrev pub askedOf : Standing → ℕ
-askedOf Absent = nobody
-askedOf Active = nobody
+askedOf Absent = nothing
+askedOf Active = nothing
 askedOf (Waiting (Short r)) = r
 askedOf (Waiting (Long r)) = r
-
--- ---- the empty records
-abbrev pub noTask : Task
-noTask = record { standing = Absent; deadline = 0; arrived = false; last = 0; requests = replicate mostRequests nobody; depth = 0; totals = replicate totalCount 0 }
-
-abbrev pub noGroup : Group
-noGroup = record { holder = nobody; queue = empty }
 
 -- ---- the parts of a state
 abbrev pub task : State → ℕ → Task
@@ -82,7 +67,7 @@ unfoldable pub depth : State → ℕ → ℕ
 depth s t = task s t .depth
 
 unfoldable pub request : State → ℕ → ℕ → ℕ
-request s t i = getD (task s t .requests) i nobody
+request s t i = getD (task s t .requests) i nothing
 
 -- the holder of group g, how many wait there, and who, first come first
 unfoldable pub holder : State → ℕ → ℕ

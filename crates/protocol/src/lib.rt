@@ -1,5 +1,6 @@
 // The state of a session: tasks, groups and processors. The rules over it are in specs/.
-use input::SetUp;
+use input::Setup;
+use numbers::Limit;
 use processors::Processors;
 use queue::Queue;
 
@@ -40,11 +41,9 @@ pub struct Task {
 
 impl Task {
     // How many requests a job may have open.
-    pub const REQUESTS: usize = 8;
+    pub const REQUESTS: usize = Limit::REQUESTS;
     // Running, spinning, linked but not running, ready, suspended.
     pub const TOTALS: usize = 5;
-    // No task and no resource; what an empty place holds.
-    pub const NOTHING: u8 = 255;
     // The numbers of the standings: no job, active, spinning on a short group, suspended on a long one.
     pub const ABSENT: u8 = 0;
 
@@ -62,10 +61,10 @@ pub struct Group {
 }
 
 pub struct State {
-    pub setup: SetUp,
+    pub setup: Setup,
     pub clock: u32,
-    pub tasks: [Task; SetUp::TASKS],
-    pub groups: [Group; SetUp::RESOURCES],
+    pub tasks: [Task; Setup::TASKS],
+    pub groups: [Group; Setup::RESOURCES],
     pub processors: Processors,
 }
 
@@ -76,6 +75,7 @@ pub struct Reply {
 }
 
 impl Reply {
-    // How many bytes are written of an event: its answer, and per processor the linked and the running task.
-    pub const LINE: usize = 1 + 2 * Processors::LIMIT;
+    // The bytes of a snapshot, which is what is written of an event: its answer, and per processor the linked and the
+    // running task.
+    pub const SNAPSHOT: usize = 1 + 2 * Processors::LIMIT;
 }

@@ -14,7 +14,8 @@ use Rattle.search.specs.Words.{_is_}
 use Rattle.search.proofs.Tests.{tests, never}
 use Rattle.search.proofs.Firsts.{first-law}
 use Rattle.search.proofs.Pigeons.{pigeons}
-use Rattle.queue.specs.Limits.{capacity, nobody}
+use Rattle.queue.specs.Limits.{capacity}
+use Rattle.numbers.specs.Limits.{nobody}
 use Rattle.queue.specs.declared.Queue.{Queue}
 use Rattle.queue.specs.Waiting.{waiting, waiter, empty, appended, movedUp, withoutFirst, placeOf, isClear, isTidy}
 use Rattle.queue.specs.Tidy.{Tidy, Waits, Distinct}

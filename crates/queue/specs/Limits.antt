@@ -1,10 +1,7 @@
--- The constants of `Queue`.
+-- The constant of `Queue`.
 use Prim.Native.Nat.{ℕ}
+use Rattle.numbers.specs.Limits.{mostTasks}
 
--- how many can wait: `Queue::CAPACITY`
+-- how many can wait: every task
 abbrev pub capacity : ℕ
-capacity = 32
-
--- no task: `Queue::NOBODY`
-abbrev pub nobody : ℕ
-nobody = 255
+capacity = mostTasks

@@ -2,7 +2,8 @@
 use Prim.Native.Nat.{ℕ, _≤_, _<_}
 use mathlib.Core.Path.{_≡_}
 use lib.ListN.{length, getD}
-use Rattle.queue.specs.Limits.{capacity, nobody}
+use Rattle.queue.specs.Limits.{capacity}
+use Rattle.numbers.specs.Limits.{nobody}
 use Rattle.queue.specs.declared.Queue.{Queue}
 use Rattle.queue.specs.Waiting.{waiter}
 

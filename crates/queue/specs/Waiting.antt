@@ -7,7 +7,8 @@ use lib.Dec.{leb, ltb}
 use Rattle.search.specs.Words.{if_then_else_, _is_, _implies_}
 use Rattle.search.specs.Below.{allBelow}
 use Rattle.search.specs.First.{first}
-use Rattle.queue.specs.Limits.{capacity, nobody}
+use Rattle.queue.specs.Limits.{capacity}
+use Rattle.numbers.specs.Limits.{nobody}
 use Rattle.queue.specs.declared.Queue.{Queue}
 
 -- the waiting tasks: the first `len` of the places

@@ -1,7 +1,8 @@
 // A queue of tasks: who waits, in the order they asked. Every function answers for any content.
+use numbers::Limit;
 ghost use mathlib.Core.Path.{_≡_};
 ghost use lib.ListN.{getD};
-ghost use Rattle.queue.specs.Limits.{nobody};
+ghost use Rattle.numbers.specs.Limits.{nobody};
 ghost use Rattle.queue.specs.Waiting.{waiter, empty, appended, movedUp, withoutFirst, placeOf, isClear, isTidy};
 
 pub struct Queue {
@@ -10,16 +11,14 @@ pub struct Queue {
 }
 
 impl Queue {
-    // How many can wait.
-    pub const CAPACITY: usize = 32;
-    // No task; what an empty place holds.
-    pub const NOBODY: u8 = 255;
+    // How many can wait: every task.
+    pub const CAPACITY: usize = Limit::TASKS;
 
     pub fn empty() -> Queue
         ensures { λ r. ⌜ r ≡ empty ⌝ }
     {
         Queue {
-            tasks: [Queue::NOBODY; Queue::CAPACITY],
+            tasks: [Limit::NOBODY; Queue::CAPACITY],
             len: 0,
         }
     }
@@ -32,7 +31,7 @@ impl Queue {
             let tasks = self.tasks;
             held(tasks, i)
         } else {
-            Queue::NOBODY
+            Limit::NOBODY
         }
     }
 
@@ -97,7 +96,7 @@ impl Queue {
         ensures { λ r. ⌜ r ≡ isClear self i ⌝ }
     {
         let tasks = self.tasks;
-        !(self.len <= i) | (held(tasks, i) == Queue::NOBODY)
+        !(self.len <= i) | (held(tasks, i) == Limit::NOBODY)
     }
 }
 
@@ -108,7 +107,7 @@ fn held(tasks: [u8; Queue::CAPACITY], i: usize) -> u8
     if i < Queue::CAPACITY {
         tasks[i]
     } else {
-        Queue::NOBODY
+        Limit::NOBODY
     }
 }
 
@@ -116,7 +115,7 @@ fn held(tasks: [u8; Queue::CAPACITY], i: usize) -> u8
 fn moved_up(tasks: [u8; Queue::CAPACITY]) -> [u8; Queue::CAPACITY]
     ensures { λ r. ⌜ r ≡ movedUp tasks ⌝ }
 {
-    let mut next = [Queue::NOBODY; Queue::CAPACITY];
+    let mut next = [Limit::NOBODY; Queue::CAPACITY];
     for i in 1..Queue::CAPACITY {
         next[i - 1] = tasks[i];
     }

@@ -14,7 +14,7 @@ use Rattle.search.proofs.Tables.{table-of}
 use Rattle.search.proofs.Tests.{never}
 use Rattle.input.specs.Kinds.{noEvent}
 use Rattle.input.specs.Layout.{eventIn, eventCount, eventsIn}
-use Rattle.input.specs.declared.SetUp.{SetUp}
+use Rattle.input.specs.declared.Setup.{Setup}
 use Rattle.input.specs.declared.Event.{Event}
 use Rattle.blocks.specs.Sizes.{mostEvents}
 use Rattle.blocks.specs.Verdicts.{numberOf}
@@ -24,13 +24,11 @@ use Rattle.writer.specs.declared.Events.{Events}
 use Rattle.writer.proofs.Answers.{lent-free, events-free}
 use Rattle.writer.proofs.EventsBack.{events-accepted, events-back, each-event-back}
 use Rattle.scenario.specs.Drafts.{noEvents, adding, filling, blockEnds, eventTaken, blockTaken, taken}
-use Rattle.scenario.specs.Made.{setUpWith, setUpSaid, eventsWith, eventsSaid, Blocks, before, lent, blocksFrom}
+use Rattle.scenario.specs.Made.{setupWith, setupSaid, eventsWith, eventsSaid, Blocks, before, lent, blocksFrom}
 use Rattle.scenario.specs.declared.Item.{Item}
-use Rattle.scenario.specs.declared.Item.the-variants.{Blank, Processors, Start, Task, Resource, Pair}
-use Rattle.scenario.specs.declared.Item.the-variants.{Happens, Block, Wrong}
+use Rattle.scenario.specs.declared.Item.the-variants.{Blank, Processors, Start, Task, Resource, Pair, Happens, Block, Wrong}
 use Rattle.scenario.specs.declared.Draft.{Draft}
-use Rattle.scenario.proofs.Taking.{event-full, event-more, block-none, block-some, onward, led}
-use Rattle.scenario.proofs.Taking.{settled-late, block-zero, block-led}
+use Rattle.scenario.proofs.Taking.{event-full, event-more, block-none, block-some, onward, led, settled-late, block-zero, block-led}
 
 -- ---- a block of events that was written
 module _ (x : Events) (index : ℕ) (out : List ℕ) (z : eventsWritten x index out .0 ≡ 0) where
@@ -162,7 +160,7 @@ module _ (later : Draft → Blocks) (quiet : Type 0) (d : Draft) (f : IsFilling 
 -- ---- the blocks from a draft on hold its events and those that the items say, and the items say nothing of the set-up
 pub record Filled (d : Draft) (items : List Item) (blocks : List (List ℕ)) : Type 0 where
   pub reads : Reads (d .index) blocks (held d ++ eventsSaid items)
-  pub quiet : (c : SetUp) → setUpSaid c items ≡ c
+  pub quiet : (c : Setup) → setupSaid c items ≡ c
 
 -- one item before others
 module _ (later : Draft → Blocks) (items : List Item) where
@@ -170,7 +168,7 @@ module _ (later : Draft → Blocks) (items : List Item) where
   AllFilled = (n : Draft) → IsFilling n → later n .all ≡ true → Filled n items (later n .blocks)
 
   abbrev quietly : Type 0
-  quietly = (c : SetUp) → setUpSaid c items ≡ c
+  quietly = (c : Setup) → setupSaid c items ≡ c
 
   -- its two parts, and those of a draft that holds no event
   both : {d : Draft} {blocks : List (List ℕ)} → Filled d items blocks
@@ -184,7 +182,7 @@ module _ (later : Draft → Blocks) (items : List Item) where
   -- any item
   filled-item : AllFilled → (item : Item) (d : Draft) (out : List ℕ) → IsFilling d
       → onward later (taken d item out) .all ≡ true → Filled d (item ∷ items) (onward later (taken d item out) .blocks)
-  unfolding taken before setUpSaid setUpWith eventsSaid eventsWith
+  unfolding taken before setupSaid setupWith eventsSaid eventsWith
   filled-item known Blank d out f h = record { reads = known d f h .reads; quiet = known d f h .quiet }
   filled-item known (Processors n) d out f h = absurd (settled-late later d _ _ _ out (f .later) h)
   filled-item known (Start n) d out f h = absurd (settled-late later d _ _ _ out (f .later) h)
@@ -201,7 +199,7 @@ module _ (later : Draft → Blocks) (items : List Item) where
 
 -- all items, and `block` at the end
 pub filled-all : (items : List Item) → AllFilled (λ d. blocksFrom d (items ++ (Block ∷ []))) items
-unfolding blocksFrom setUpSaid eventsSaid taken
+unfolding blocksFrom setupSaid eventsSaid taken
 filled-all [] d f h =
     let r = block-reads (λ n. blocksFrom n []) Unit d f lent [] (λ n g z a. (reads-none (n .index), tt)) h in
     record { reads = r .0; quiet = λ c. refl }

@@ -11,7 +11,7 @@ use Rattle.search.specs.First.{first}
 use Rattle.search.specs.Texts.{codes, valueBehind}
 use Rattle.search.proofs.Tables.{getD-any}
 use Rattle.search.proofs.Tests.{tests}
-use Rattle.input.specs.Limits.{short, long}
+use Rattle.input.specs.Kinds.{short, long}
 use Rattle.input.specs.Layout.{byte}
 use Rattle.scenario.specs.Words.{atSign, areSame, isNumber}
 use Rattle.scenario.specs.Items.{noMore, aTick, aKind, mostOf, one, notOne, numberIn, tickIn, kindIn, argumentOf, Entry, items, itemCount, noEntry, entryAt, itemNamed, sortAt}

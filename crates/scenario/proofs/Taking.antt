@@ -11,11 +11,10 @@ use Rattle.search.specs.Words.{if_then_else_}
 use Rattle.search.proofs.Tests.{never}
 use Rattle.input.specs.declared.Event.{Event}
 use Rattle.blocks.specs.Sizes.{mostEvents}
-use Rattle.writer.specs.SetUpBlocks.{setUpWritten}
+use Rattle.writer.specs.SetupBlocks.{setupWritten}
 use Rattle.writer.specs.EventBlocks.{eventsWritten}
 use Rattle.writer.specs.declared.Events.{Events}
-use Rattle.scenario.specs.Drafts.{noEvents, adding, filling, kept, faulty, missing, answered, settled}
-use Rattle.scenario.specs.Drafts.{setUpEnds, blockEnds, eventTaken, blockTaken}
+use Rattle.scenario.specs.Drafts.{noEvents, adding, filling, kept, faulty, missing, answered, settled, setupEnds, blockEnds, eventTaken, blockTaken}
 use Rattle.scenario.specs.Made.{Blocks, before}
 use Rattle.scenario.specs.declared.Draft.{Draft}
 use Rattle.scenario.specs.declared.Told.the-variants.{Written, Refused}
@@ -31,7 +30,7 @@ settled-same d reason false next other h = rw (h refl)
 -- ---- an event and `block`, where the tests are known
 module _ (d : Draft) (out : List ℕ) where
   -- the first event ends the set-up
-  pub event-first : (e : Event) → d .index ≡ 0 → eventTaken d e out ≡ setUpEnds d (adding e noEvents) out
+  pub event-first : (e : Event) → d .index ≡ 0 → eventTaken d e out ≡ setupEnds d (adding e noEvents) out
   unfolding eventTaken
   event-first e z = rw (eq-eqb (d .index) 0 z)
 
@@ -48,7 +47,7 @@ module _ (d : Draft) (out : List ℕ) where
   event-more e n f = rw (ne-eqb (d .index) 0 n, f)
 
   -- `block` ends the set-up, and else a block that has events
-  pub block-first : d .index ≡ 0 → blockTaken d out ≡ setUpEnds d noEvents out
+  pub block-first : d .index ≡ 0 → blockTaken d out ≡ setupEnds d noEvents out
   unfolding blockTaken
   block-first z = rw (eq-eqb (d .index) 0 z)
 
@@ -117,24 +116,24 @@ module _ (later : Draft → Blocks) where
     -- where the set-up ends, by whether its processors are given
     abbrev ending : Bool → Taken × List ℕ
     ending sized =
-        if sized then (answered d (filling d 1 x) (setUpWritten (d .setup) out .0), setUpWritten (d .setup) out .1) else
+        if sized then (answered d (filling d 1 x) (setupWritten (d .setup) out .0), setupWritten (d .setup) out .1) else
         (faulty d missing, out)
 
     ending-sized : (sized : Bool) → onward (ending sized) .all ≡ true
-        → (sized ≡ true) × (setUpWritten (d .setup) out .0 ≡ 0)
+        → (sized ≡ true) × (setupWritten (d .setup) out .0 ≡ 0)
     unfolding before
-    ending-sized true h = (refl, answered-zero d (filling d 1 x) _ (setUpWritten (d .setup) out .1) h)
+    ending-sized true h = (refl, answered-zero d (filling d 1 x) _ (setupWritten (d .setup) out .1) h)
     ending-sized false h = never refl h
 
     -- they are, and it is written
-    pub set-up-zero : onward (setUpEnds d x out) .all ≡ true → (d .sized ≡ true) × (setUpWritten (d .setup) out .0 ≡ 0)
-    unfolding setUpEnds
-    set-up-zero h = ending-sized (d .sized) h
+    pub setup-zero : onward (setupEnds d x out) .all ≡ true → (d .sized ≡ true) × (setupWritten (d .setup) out .0 ≡ 0)
+    unfolding setupEnds
+    setup-zero h = ending-sized (d .sized) h
 
     -- and block 1 is filled
-    pub set-up-led : d .sized ≡ true → setUpWritten (d .setup) out .0 ≡ 0
-        → onward (setUpEnds d x out) ≡ led (setUpWritten (d .setup) out .1) (filling d 1 x)
-    unfolding setUpEnds
-    set-up-led s z =
-        subst⁻¹ (λ b. onward (ending b) ≡ led (setUpWritten (d .setup) out .1) (filling d 1 x)) s
-        (answered-led d (filling d 1 x) _ (setUpWritten (d .setup) out .1) z)
+    pub setup-led : d .sized ≡ true → setupWritten (d .setup) out .0 ≡ 0
+        → onward (setupEnds d x out) ≡ led (setupWritten (d .setup) out .1) (filling d 1 x)
+    unfolding setupEnds
+    setup-led s z =
+        subst⁻¹ (λ b. onward (ending b) ≡ led (setupWritten (d .setup) out .1) (filling d 1 x)) s
+        (answered-led d (filling d 1 x) _ (setupWritten (d .setup) out .1) z)

@@ -5,16 +5,16 @@ use mathlib.Core.List.{List, []}
 use lib.Dec.{leb}
 use lib.ListN.{set, replicate}
 use Rattle.search.specs.Words.{if_then_else_, _is_, _isn't_}
-use Rattle.input.specs.Limits.{mostTasks, mostResources, mostPairs}
+use Rattle.numbers.specs.Limits.{mostTasks, mostResources, mostPairs}
 use Rattle.input.specs.Kinds.{noEvent}
-use Rattle.input.specs.Words.{noSetUp}
-use Rattle.input.specs.declared.SetUp.{SetUp}
+use Rattle.input.specs.Words.{noSetup}
+use Rattle.input.specs.declared.Setup.{Setup}
 use Rattle.input.specs.declared.Event.{Event}
 use Rattle.blocks.specs.Sizes.{mostEvents}
-use Rattle.writer.specs.SetUpBlocks.{setUpWritten}
+use Rattle.writer.specs.SetupBlocks.{setupWritten}
 use Rattle.writer.specs.EventBlocks.{eventsWritten}
 use Rattle.writer.specs.declared.Events.{Events}
-use Rattle.scenario.specs.SetUps.{withProcessors, withStart, withTask, withResource, withPair}
+use Rattle.scenario.specs.SetupItems.{withProcessors, withStart, withTask, withResource, withPair}
 use Rattle.scenario.specs.declared.Item.{Item}
 use Rattle.scenario.specs.declared.Item.the-variants.{Blank, Processors, Start, Task, Resource, Pair, Happens, Block, Wrong}
 use Rattle.scenario.specs.declared.Draft.{Draft}
@@ -44,11 +44,11 @@ adding e x = record { of = set (x .of) (x .count) e; count = suc (x .count) }
 
 -- ---- a draft: its set-up so far; whether its processors and its start are given; the index of the block being
 -- filled, which is 0 while the set-up is open; and the events of that block
-abbrev pub draftBy : SetUp → Bool → Bool → ℕ → Events → Draft
+abbrev pub draftBy : Setup → Bool → Bool → ℕ → Events → Draft
 draftBy c sized started index x = record { setup = c; sized = sized; started = started; index = index; events = x }
 
 abbrev pub noDraft : Draft
-noDraft = draftBy noSetUp false false 0 noEvents
+noDraft = draftBy noSetup false false 0 noEvents
 
 module _ (d : Draft) where
   abbrev pub sizedBy : ℕ → Draft
@@ -57,8 +57,8 @@ module _ (d : Draft) where
   abbrev pub startedAt : ℕ → Draft
   startedAt start = draftBy (withStart (d .setup) start) (d .sized) true (d .index) (d .events)
 
-  abbrev pub withSetUp : SetUp → Draft
-  withSetUp c = draftBy c (d .sized) (d .started) (d .index) (d .events)
+  abbrev pub withSetup : Setup → Draft
+  withSetup c = draftBy c (d .sized) (d .started) (d .index) (d .events)
 
   -- with block n begun, and these events in it
   abbrev pub filling : ℕ → Events → Draft
@@ -85,9 +85,9 @@ module _ (d : Draft) where
       kept next
 
   -- the set-up ends, and block 1 begins with these events
-  unfoldable pub setUpEnds : Events → List ℕ → Taken × List ℕ
-  setUpEnds x out =
-      let w = setUpWritten (d .setup) out in
+  unfoldable pub setupEnds : Events → List ℕ → Taken × List ℕ
+  setupEnds x out =
+      let w = setupWritten (d .setup) out in
       if d .sized then (answered d (filling d 1 x) (w .0), w .1) else (faulty d missing, out)
 
   -- a block of events ends, and the next one begins with these
@@ -99,14 +99,14 @@ module _ (d : Draft) where
   -- an event; the first one ends the set-up, and one that finds its block full ends that
   unfoldable pub eventTaken : Event → List ℕ → Taken × List ℕ
   eventTaken e out =
-      if d .index is 0 then setUpEnds (adding e noEvents) out else
+      if d .index is 0 then setupEnds (adding e noEvents) out else
       if leb mostEvents (d .events .count) then blockEnds (adding e noEvents) out else
       (kept (filling d (d .index) (adding e (d .events))), out)
 
   -- the next block begins; one without events is not written
   unfoldable pub blockTaken : List ℕ → Taken × List ℕ
   blockTaken out =
-      if d .index is 0 then setUpEnds noEvents out else
+      if d .index is 0 then setupEnds noEvents out else
       if d .events .count is 0 then (kept d, out) else
       blockEnds noEvents out
 
@@ -116,11 +116,11 @@ module _ (d : Draft) where
   taken (Processors m) out = (settled twice (d .sized) (sizedBy d m), out)
   taken (Start start) out = (settled twice (d .started) (startedAt d start), out)
   taken (Task period) out =
-      let c = d .setup in (settled full (leb mostTasks (c .tasks)) (withSetUp d (withTask c period)), out)
+      let c = d .setup in (settled full (leb mostTasks (c .tasks)) (withSetup d (withTask c period)), out)
   taken (Resource kind) out =
-      let c = d .setup in (settled full (leb mostResources (c .resources)) (withSetUp d (withResource c kind)), out)
+      let c = d .setup in (settled full (leb mostResources (c .resources)) (withSetup d (withResource c kind)), out)
   taken (Pair outer inner) out =
-      let c = d .setup in (settled full (leb mostPairs (c .pairs)) (withSetUp d (withPair c outer inner)), out)
+      let c = d .setup in (settled full (leb mostPairs (c .pairs)) (withSetup d (withPair c outer inner)), out)
   taken (Happens e) out = eventTaken e out
   taken Block out = blockTaken out
   taken (Wrong reason) out = (faulty d reason, out)

@@ -7,11 +7,10 @@ use lib.Dec.{leb}
 use lib.ListN.{length, getD, drop}
 use Rattle.search.specs.Words.{if_then_else_, _is_}
 use Rattle.search.specs.First.{first}
-use Rattle.search.specs.Rows.{Row, _when_, _otherwise_, firstOf}
+use Rattle.numbers.specs.Rows.{Row, _when_, _otherwise_, firstOf}
 use Rattle.search.specs.Texts.{codes, valueBehind}
-use Rattle.input.specs.Limits.{short, long}
+use Rattle.input.specs.Kinds.{short, long, arrival, finish, request, completion, passing}
 use Rattle.input.specs.Layout.{byte}
-use Rattle.input.specs.Kinds.{arrival, finish, request, completion, passing}
 use Rattle.scenario.specs.Words.{atSign, said, firstWord, behind, word, areSame, isNumber}
 use Rattle.scenario.specs.declared.Argument.{Argument}
 use Rattle.scenario.specs.declared.Item.{Item}

@@ -2,5 +2,5 @@ pub mod Drafts
 pub mod Items
 pub mod Made
 pub mod Reads
-pub mod SetUps
+pub mod SetupItems
 pub mod Words

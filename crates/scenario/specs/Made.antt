@@ -4,14 +4,14 @@ use mathlib.Core.Path.{_≡_}
 use mathlib.Core.Bool.{Bool, true, false}
 use mathlib.Core.List.{List, [], _∷_, _++_, map}
 use lib.ListN.{length, getD, replicate}
-use Rattle.input.specs.Words.{noSetUp}
-use Rattle.input.specs.declared.SetUp.{SetUp}
+use Rattle.input.specs.Words.{noSetup}
+use Rattle.input.specs.declared.Setup.{Setup}
 use Rattle.input.specs.declared.Event.{Event}
 use Rattle.setups.specs.Clearing.{cleared}
-use Rattle.setups.specs.Refusals.{setUpRefusal}
+use Rattle.setups.specs.Refusals.{setupRefusal}
 use Rattle.blocks.specs.Sizes.{blockSize}
-use Rattle.blocks.specs.Files.{refusalOf, setUpOf, eventsOf}
-use Rattle.scenario.specs.SetUps.{withProcessors, withStart, withTask, withResource, withPair}
+use Rattle.blocks.specs.Files.{refusalOf, setupOf, eventsOf}
+use Rattle.scenario.specs.SetupItems.{withProcessors, withStart, withTask, withResource, withPair}
 use Rattle.scenario.specs.Items.{itemOf}
 use Rattle.scenario.specs.Drafts.{noDraft, taken}
 use Rattle.scenario.specs.declared.Item.{Item}
@@ -21,20 +21,20 @@ use Rattle.scenario.specs.declared.Told.{Told}
 use Rattle.scenario.specs.declared.Told.the-variants.{Kept, Written, Faulty, Refused}
 
 -- ---- what items say, in order: a set-up, and events
-unfoldable pub setUpWith : Item → SetUp → SetUp
-setUpWith Blank c = c
-setUpWith (Processors n) c = withProcessors c n
-setUpWith (Start n) c = withStart c n
-setUpWith (Task period) c = withTask c period
-setUpWith (Resource kind) c = withResource c kind
-setUpWith (Pair outer inner) c = withPair c outer inner
-setUpWith (Happens e) c = c
-setUpWith Block c = c
-setUpWith (Wrong reason) c = c
+unfoldable pub setupWith : Item → Setup → Setup
+setupWith Blank c = c
+setupWith (Processors n) c = withProcessors c n
+setupWith (Start n) c = withStart c n
+setupWith (Task period) c = withTask c period
+setupWith (Resource kind) c = withResource c kind
+setupWith (Pair outer inner) c = withPair c outer inner
+setupWith (Happens e) c = c
+setupWith Block c = c
+setupWith (Wrong reason) c = c
 
-unfoldable pub setUpSaid : SetUp → List Item → SetUp
-setUpSaid c [] = c
-setUpSaid c (item ∷ items) = setUpSaid (setUpWith item c) items
+unfoldable pub setupSaid : Setup → List Item → Setup
+setupSaid c [] = c
+setupSaid c (item ∷ items) = setupSaid (setupWith item c) items
 
 unfoldable pub eventsWith : Item → List Event → List Event
 eventsWith Blank es = es
@@ -84,8 +84,8 @@ blocksMade lines = blocksFrom noDraft (itemsOf lines ++ (Block ∷ []))
 pub record IsMade (lines : List (List ℕ)) : Type 0 where
   pub accepted : (i : ℕ) → i < length (blocksMade lines .blocks)
       → refusalOf (getD (blocksMade lines .blocks) i []) i ≡ 0
-  pub setup : setUpOf (blocksMade lines .blocks) ≡ cleared (setUpSaid noSetUp (itemsOf lines))
-  pub free : setUpRefusal (setUpSaid noSetUp (itemsOf lines)) ≡ 0
+  pub setup : setupOf (blocksMade lines .blocks) ≡ cleared (setupSaid noSetup (itemsOf lines))
+  pub free : setupRefusal (setupSaid noSetup (itemsOf lines)) ≡ 0
   pub events : eventsOf (blocksMade lines .blocks) ≡ eventsSaid (itemsOf lines)
 
 abbrev pub MadeReadsBack : Type 0

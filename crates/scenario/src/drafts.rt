@@ -3,21 +3,21 @@ use crate::Draft;
 use crate::Item;
 use crate::Taken;
 use crate::Told;
-use crate::set_ups::with_pair;
-use crate::set_ups::with_processors;
-use crate::set_ups::with_resource;
-use crate::set_ups::with_start;
-use crate::set_ups::with_task;
+use crate::setup_items::with_pair;
+use crate::setup_items::with_processors;
+use crate::setup_items::with_resource;
+use crate::setup_items::with_start;
+use crate::setup_items::with_task;
 use input::Event;
-use input::SetUp;
+use input::Setup;
 use writer::Events;
 ghost use mathlib.Core.Path.{_≡_};
 ghost use Prim.Native.Nat.{_<_};
 ghost use lib.Dec.{leb};
-ghost use Rattle.input.specs.Limits.{mostTasks, mostResources, mostPairs};
+ghost use Rattle.numbers.specs.Limits.{mostTasks, mostResources, mostPairs};
 ghost use Rattle.blocks.specs.Sizes.{mostEvents};
-ghost use Rattle.scenario.specs.SetUps.{withTask, withResource, withPair};
-ghost use Rattle.scenario.specs.Drafts.{twice, full, noEvents, adding, noDraft, sizedBy, startedAt, withSetUp, settled, setUpEnds, blockEnds, eventTaken, blockTaken, taken};
+ghost use Rattle.scenario.specs.SetupItems.{withTask, withResource, withPair};
+ghost use Rattle.scenario.specs.Drafts.{twice, full, noEvents, adding, noDraft, sizedBy, startedAt, withSetup, settled, setupEnds, blockEnds, eventTaken, blockTaken, taken};
 ghost use Rattle.scenario.specs.Drafts as spec;
 
 fn no_events() -> Events
@@ -45,7 +45,7 @@ pub fn begin() -> Draft
     ensures { λ r. ⌜ r ≡ noDraft ⌝ }
 {
     Draft {
-        setup: SetUp::none(),
+        setup: Setup::none(),
         sized: false,
         started: false,
         index: 0,
@@ -71,8 +71,8 @@ fn faulty(draft: Draft, reason: u8) -> Taken
     }
 }
 
-fn with_set_up(draft: Draft, setup: SetUp) -> Draft
-    ensures { λ r. ⌜ r ≡ withSetUp draft setup ⌝ }
+fn with_setup(draft: Draft, setup: Setup) -> Draft
+    ensures { λ r. ⌜ r ≡ withSetup draft setup ⌝ }
 {
     let mut next = draft;
     next.setup = setup;
@@ -106,7 +106,7 @@ fn settle(draft: Draft, reason: u8, bars: bool, next: Draft) -> Taken
 fn take_processors(draft: Draft, n: u32) -> Taken
     ensures { λ r. ⌜ r ≡ settled draft twice (draft .sized) (sizedBy draft n) ⌝ }
 {
-    let mut next = with_set_up(draft, with_processors(draft.setup, n as usize));
+    let mut next = with_setup(draft, with_processors(draft.setup, n as usize));
     next.sized = true;
     settle(draft, Item::TWICE, draft.sized, next)
 }
@@ -114,36 +114,36 @@ fn take_processors(draft: Draft, n: u32) -> Taken
 fn take_start(draft: Draft, start: u32) -> Taken
     ensures { λ r. ⌜ r ≡ settled draft twice (draft .started) (startedAt draft start) ⌝ }
 {
-    let mut next = with_set_up(draft, with_start(draft.setup, start));
+    let mut next = with_setup(draft, with_start(draft.setup, start));
     next.started = true;
     settle(draft, Item::TWICE, draft.started, next)
 }
 
 fn take_task(draft: Draft, period: u16) -> Taken
     ensures { λ r. ⌜ r ≡ settled draft full (leb mostTasks (draft .setup .tasks))
-        (withSetUp draft (withTask (draft .setup) period)) ⌝ }
+        (withSetup draft (withTask (draft .setup) period)) ⌝ }
 {
     let setup = draft.setup;
-    let next = with_set_up(draft, with_task(setup, period));
-    settle(draft, Item::FULL, SetUp::TASKS <= setup.tasks, next)
+    let next = with_setup(draft, with_task(setup, period));
+    settle(draft, Item::FULL, Setup::TASKS <= setup.tasks, next)
 }
 
 fn take_resource(draft: Draft, kind: u8) -> Taken
     ensures { λ r. ⌜ r ≡ settled draft full (leb mostResources (draft .setup .resources))
-        (withSetUp draft (withResource (draft .setup) kind)) ⌝ }
+        (withSetup draft (withResource (draft .setup) kind)) ⌝ }
 {
     let setup = draft.setup;
-    let next = with_set_up(draft, with_resource(setup, kind));
-    settle(draft, Item::FULL, SetUp::RESOURCES <= setup.resources, next)
+    let next = with_setup(draft, with_resource(setup, kind));
+    settle(draft, Item::FULL, Setup::RESOURCES <= setup.resources, next)
 }
 
 fn take_pair(draft: Draft, outer: u8, inner: u8) -> Taken
     ensures { λ r. ⌜ r ≡ settled draft full (leb mostPairs (draft .setup .pairs))
-        (withSetUp draft (withPair (draft .setup) outer inner)) ⌝ }
+        (withSetup draft (withPair (draft .setup) outer inner)) ⌝ }
 {
     let setup = draft.setup;
-    let next = with_set_up(draft, with_pair(setup, outer, inner));
-    settle(draft, Item::FULL, SetUp::PAIRS <= setup.pairs, next)
+    let next = with_setup(draft, with_pair(setup, outer, inner));
+    settle(draft, Item::FULL, Setup::PAIRS <= setup.pairs, next)
 }
 
 // ---- the blocks
@@ -165,11 +165,11 @@ fn answered(draft: Draft, next: Draft, number: u8) -> Taken
 }
 
 // The set-up ends, and block 1 begins with these events.
-fn end_set_up(draft: Draft, events: Events, out: &mut [u8]) -> Taken
-    ensures { λ r. ⌜ (r, now (out .exit)) ≡ setUpEnds draft events (now (out .entry)) ⌝ }
+fn end_setup(draft: Draft, events: Events, out: &mut [u8]) -> Taken
+    ensures { λ r. ⌜ (r, now (out .exit)) ≡ setupEnds draft events (now (out .entry)) ⌝ }
 {
     if draft.sized {
-        let number = writer::write_set_up(draft.setup, out);
+        let number = writer::write_setup(draft.setup, out);
         return answered(draft, filling(draft, 1, events), number);
     }
     faulty(draft, Item::MISSING)
@@ -193,7 +193,7 @@ fn take_event(draft: Draft, e: Event, out: &mut [u8]) -> Taken
 {
     let events = draft.events;
     if draft.index == 0 {
-        return end_set_up(draft, with_event(no_events(), e), out);
+        return end_setup(draft, with_event(no_events(), e), out);
     }
     if Events::MOST <= events.count {
         return end_block(draft, with_event(no_events(), e), out);
@@ -206,7 +206,7 @@ fn take_block(draft: Draft, out: &mut [u8]) -> Taken
 {
     let events = draft.events;
     if draft.index == 0 {
-        return end_set_up(draft, no_events(), out);
+        return end_setup(draft, no_events(), out);
     }
     if events.count == 0 {
         return kept(draft);

@@ -179,7 +179,7 @@ fn said(item: usize, a: u32, b: u32, c: u32, d: u32) -> Item
 fn misfit(sort: u8, argument: Argument, later: u8) -> u8
     ensures { λ r. ⌜ r ≡ (if not (argument .right) then sort else later) ⌝ }
 {
-    search::row(sort, !argument.right, later)
+    numbers::row(sort, !argument.right, later)
 }
 
 // The item with what stands behind its name, from a place on.
@@ -199,7 +199,7 @@ fn item_behind(l: &[u8], at: usize, item: usize) -> Item
         a.argument,
         misfit(form.1, b.argument, misfit(form.2, c.argument, last)),
     );
-    let wrong = search::row(Item::UNKNOWN, ITEMS <= item, first);
+    let wrong = numbers::row(Item::UNKNOWN, ITEMS <= item, first);
     if wrong != 0 {
         return Item::Wrong(wrong);
     }

@@ -2,12 +2,12 @@
 mod drafts;
 mod items;
 mod reading;
-mod set_ups;
+mod setup_items;
 
 pub use drafts::begin;
 pub use drafts::take_item;
 use input::Event;
-use input::SetUp;
+use input::Setup;
 pub use items::read_line;
 use writer::Events;
 
@@ -72,7 +72,7 @@ struct Read {
 // A file in the making: its set-up so far; whether its processors and its start are given; the index of the block being
 // filled, 0 while the set-up is open; and the events of that block.
 pub struct Draft {
-    pub setup: SetUp,
+    pub setup: Setup,
     pub sized: bool,
     pub started: bool,
     pub index: u64,

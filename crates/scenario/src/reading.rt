@@ -2,7 +2,7 @@
 use crate::Argument;
 use crate::Form;
 use crate::Read;
-use input::SetUp;
+use input::Setup;
 ghost use mathlib.Core.Path.{_≡_};
 ghost use Prim.Native.Nat.{_+_, _-_, _≤_, _<_};
 ghost use lib.ListN.{length, take, drop};
@@ -125,7 +125,7 @@ fn most_of(sort: u8) -> u32
         return 4294967295;
     }
     if sort == Form::KIND {
-        return SetUp::LONG as u32;
+        return Setup::LONG as u32;
     }
     0
 }
@@ -178,10 +178,10 @@ fn kind_in(word: &[u8]) -> Argument
     ensures { λ r. ⌜ r ≡ kindIn (now (word .entry)) ⌝ }
 {
     if is_word(word, b"short") {
-        return one(SetUp::SHORT as u32);
+        return one(Setup::SHORT as u32);
     }
     if is_word(word, b"long") {
-        return one(SetUp::LONG as u32);
+        return one(Setup::LONG as u32);
     }
     NOT_ONE
 }

@@ -9,9 +9,10 @@ use lib.Dec.{ltb}
 use borrow.Author.Tests.{lt-ltb, le-ltb, eq-eqb, ltb-true, ltb-false, eqb-true}
 use Rattle.search.specs.Words.{if_then_else_, _is_}
 use Rattle.search.proofs.Tests.{and-left, and-right, never}
-use Rattle.processors.specs.Limits.{processors, nobody, preemptable}
+use Rattle.numbers.specs.Limits.{mostProcessors, nobody}
+use Rattle.processors.specs.Modes.{preemptable}
 use Rattle.processors.specs.Words.{link, runs, rankOf, modeOf, isHigher, placeOn, linkOn}
-use Rattle.scheduler.specs.Arriving.{lowestLinked, isPreempted, displacing, arrivingOn}
+use Rattle.scheduler.specs.Arriving.{lowestLinked, canPreempt, displacing, arrivingOn}
 use Rattle.scheduler.specs.Placed.{Runnable, Settled, Placed, Unlinked}
 use Rattle.scheduler.specs.Changes.{Joins, Chosen}
 use Rattle.processors.specs.declared.Jobs.{Jobs}
@@ -32,10 +33,10 @@ module _ (p : Processors) (j j′ : Jobs) (t : ℕ) (P : Placed p j) (J : Joins 
 
   S : Settled p j′
   S = rejob p j j′ (P .settled) (λ m _. keep _ (off m .0)) (λ m _. keep _ (off m .1)) (λ m _ q. inl (sym (J .others _ (off m .1) .1) ∙ q))
-      (λ u r q. inl (sym (J .others u (λ e. omega (arith, ap (modeOf j′) e, J .soft)) .1) ∙ q))
+      (λ u r q. inl (sym (J .others u (λ e. omega (arith, ap (modeOf j′) e, J .mode)) .1) ∙ q))
 
   R : Runnable j′ t
-  R = record { task = J .task; mode = omega (arith, J .soft) }
+  R = record { task = J .task; mode = omega (arith, J .mode) }
 
   -- who else has no link stands below every link
   below : (m u : ℕ) → m < p .count → u ≢ t → Runnable j′ u → Unlinked p u → (link p m ≢ nobody) × (rankOf j′ (link p m) < rankOf j′ u)
@@ -99,11 +100,11 @@ module _ (p : Processors) (j j′ : Jobs) (t : ℕ) (P : Placed p j) (J : Joins 
                 higher p′ k v u W (omega (arith, below k u l (a .0) r was .1)) (λ i b d. below i u b (a .0) r was) m g
           ]
 
-      in-range : k < processors
+      in-range : k < mostProcessors
       in-range = omega (arith, S .fits)
 
       -- the displaced job is running and preemptable: t runs in its stead
-      runs-at-once : isPreempted p j′ k ≡ true → Placed (placeOn p k t) j′
+      runs-at-once : canPreempt p j′ k ≡ true → Placed (placeOn p k t) j′
       runs-at-once q =
           let own = eqb-true (runs p k) (link p k) (and-left _ _ q) in
           let soft = eqb-true (modeOf j′ (link p k)) preemptable (and-right (runs p k is link p k) _ q) in
@@ -119,19 +120,19 @@ module _ (p : Processors) (j j′ : Jobs) (t : ℕ) (P : Placed p j) (J : Joins 
           }
 
       -- the displaced job runs on, or another does: t has the link and waits
-      waits : isPreempted p j′ k ≡ false → Placed (linkOn p k t) j′
+      waits : canPreempt p j′ k ≡ false → Placed (linkOn p k t) j′
       waits q =
           let W = put-link p k t (S .sized) in-range in
           record {
             settled = relink p (linkOn p k t) j′ k S l t R (λ m. off m .0) W (full k l) (λ m e. absurd (off m .1 e))
-                (λ e. let own = S .preemptable-linked k (S .busy k (full k l)) e in
+                (λ e. let own = S .preemptable-linked k (S .linked-busy k (full k l)) e in
                 absurd (never q (rw (eq-eqb _ _ (sym own), eq-eqb (modeOf j′ (link p k)) preemptable (ap (modeOf j′) own ∙ e)))));
             highest = taken (linkOn p k t) (runs p k) W;
           }
 
     displaces : Placed (displacing p j′ t (lowestLinked p j′)) j′
     unfolding displacing
-    displaces = go (ltb k processors && isHigher j′ t (link p k)) refl
+    displaces = go (ltb k mostProcessors && isHigher j′ t (link p k)) refl
       where
         k : ℕ
         k = lowestLinked p j′
@@ -139,23 +140,23 @@ module _ (p : Processors) (j j′ : Jobs) (t : ℕ) (P : Placed p j) (J : Joins 
         low : (m : ℕ) → m < p .count → (k < p .count) × (rankOf j′ (link p m) ≤ rankOf j′ (link p k))
         low m g = let o = lowest-is p j′ .top m (omega (arith, S .fits)) (lt-ltb _ _ g) in (ltb-true _ _ (o .1), o .2)
 
-        ends : (l : k < p .count) → rankOf j′ t < rankOf j′ (link p k) → (b : Bool) → isPreempted p j′ k ≡ b → Placed (if b then placeOn p k t else linkOn p k t) j′
+        ends : (l : k < p .count) → rankOf j′ t < rankOf j′ (link p k) → (b : Bool) → canPreempt p j′ k ≡ b → Placed (if b then placeOn p k t else linkOn p k t) j′
         ends l h true q = runs-at-once k l (λ m g. low m g .1) h q
         ends l h false q = waits k l (λ m g. low m g .1) h q
 
-        go : (b : Bool) → (ltb k processors && isHigher j′ t (link p k)) ≡ b → Placed (if b then if isPreempted p j′ k then placeOn p k t else linkOn p k t else p) j′
+        go : (b : Bool) → (ltb k mostProcessors && isHigher j′ t (link p k)) ≡ b → Placed (if b then if canPreempt p j′ k then placeOn p k t else linkOn p k t else p) j′
         go true e =
-            let h : k < processors = ltb-true _ _ (and-left _ _ e) in
+            let h : k < mostProcessors = ltb-true _ _ (and-left _ _ e) in
             let l : k < p .count = ⊎-elim (λ z. absurd (omega arith)) (λ z. ltb-true _ _ (z .1)) (lowest-is p j′ .one) in
-            ends l (ltb-true _ _ (and-right (ltb k processors) _ e)) (isPreempted p j′ k) refl
+            ends l (ltb-true _ _ (and-right (ltb k mostProcessors) _ e)) (canPreempt p j′ k) refl
         go false e = stays (λ m g.
             let o = low m g in
-            let c : rankOf j′ (link p k) ≤ rankOf j′ t = ltb-false _ _ (rw (lt-ltb k processors (omega (arith, S .fits))) at e) in
+            let c : rankOf j′ (link p k) ≤ rankOf j′ t = ltb-false _ _ (rw (lt-ltb k mostProcessors (omega (arith, S .fits))) at e) in
             omega arith)
 
   pub coming-placed : (k : ℕ) → Chosen p k → Placed (arrivingOn p j′ t k) j′
   unfolding arrivingOn
-  coming-placed k C = elim (decLt k processors) [
+  coming-placed k C = elim (decLt k mostProcessors) [
     | yes h ↦ rw (lt-ltb _ _ h) (starts k (C .free h .0) (C .free h .1))
-    | no h ↦ rw (le-ltb k processors (omega arith)) (displaces (C .none (omega arith)))
+    | no h ↦ rw (le-ltb k mostProcessors (omega arith)) (displaces (C .none (omega arith)))
   ]

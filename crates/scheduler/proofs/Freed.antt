@@ -5,7 +5,7 @@ use mathlib.Core.Logic.{_≢_, _⊎_, ⊎-elim}
 use native.Mathlib.Omega.{arith}
 use native.Mathlib.Decide.{ℕ-discrete, decLt}
 use borrow.Author.Tests.{lt-ltb, le-ltb}
-use Rattle.processors.specs.Limits.{processors, tasks, nobody}
+use Rattle.numbers.specs.Limits.{mostProcessors, mostTasks, nobody}
 use Rattle.processors.specs.Words.{link, runs, rankOf, runOf, placeOn, linkOn}
 use Rattle.scheduler.specs.Leaving.{nextTask, filling, refilling}
 use Rattle.scheduler.specs.Placed.{Runnable, Settled, Placed, Unlinked}
@@ -19,10 +19,10 @@ module _ (p : Processors) (j : Jobs) (k : ℕ) (S : Settled p j) (l : k < p .cou
     -- the other links are above all unlinked runnable jobs but the next one, which may have risen above them
     (others : (m v : ℕ) → m < p .count → m ≢ k → v ≢ nextTask p j → Runnable j v → Unlinked p v → (link p m ≢ nobody) × (rankOf j (link p m) < rankOf j v))
     (apart : Apart j) where
-  in-range : k < processors
+  in-range : k < mostProcessors
   in-range = omega (arith, S .fits)
 
-  none-left : tasks ≤ nextTask p j → Placed p j
+  none-left : mostTasks ≤ nextTask p j → Placed p j
   none-left h = record { settled = S; highest = λ m u g r n. absurd (omega (arith, next-is p j (S .sized) .top u r n .0)) }
 
   -- ---- u is the next
@@ -33,7 +33,7 @@ module _ (p : Processors) (j : Jobs) (k : ℕ) (S : Settled p j) (l : k < p .cou
         omega (arith, next-is p j (S .sized) .top v r n .1, ap (rankOf j) next)
 
     -- it runs nowhere: it is linked to k and runs there
-    starts : processors ≤ runOf p u → Placed (placeOn p k u) j
+    starts : mostProcessors ≤ runOf p u → Placed (placeOn p k u) j
     starts g =
         let W = put-place p k u (S .sized) in-range in
         record {
@@ -50,7 +50,7 @@ module _ (p : Processors) (j : Jobs) (k : ℕ) (S : Settled p j) (l : k < p .cou
     -- it runs on q: it is linked there, and q's link moves to k and runs
     module _ (q : ℕ) (ran : runs p q ≡ u) where
       had : link p q ≢ nobody
-      had e = omega (arith, S .idle q e, R .task)
+      had e = omega (arith, S .unlinked-idle q e, R .task)
 
       q-counts : q < p .count
       q-counts = elim (decLt q (p .count)) [ yes y ↦ y | no y ↦ absurd (had (S .beyond q (omega arith) .0)) ]
@@ -109,17 +109,17 @@ module _ (p : Processors) (j : Jobs) (k : ℕ) (S : Settled p j) (l : k < p .cou
 
     fills : Placed (filling p k u (runOf p u)) j
     unfolding filling
-    fills = elim (decLt (runOf p u) processors) [
+    fills = elim (decLt (runOf p u) mostProcessors) [
       | yes g ↦
           let q = runOf p u in
           let W₁ = put-link p q u (S .sized) g in
           rw (lt-ltb _ _ g) (moved q (run-here p u g) (linkOn p q u) (placeOn (linkOn p q u) k (link p q)) W₁ (put-place (linkOn p q u) k (link p q) (W₁ .sized) in-range))
-      | no g ↦ rw (le-ltb (runOf p u) processors (omega arith)) (starts (omega arith))
+      | no g ↦ rw (le-ltb (runOf p u) mostProcessors (omega arith)) (starts (omega arith))
     ]
 
   pub refilled-placed : Placed (refilling p j k) j
   unfolding refilling
-  refilled-placed = elim (decLt (nextTask p j) tasks) [
+  refilled-placed = elim (decLt (nextTask p j) mostTasks) [
     | yes g ↦ let o = next-is p j (S .sized) .one g in rw (lt-ltb _ _ g) (fills (nextTask p j) refl (o .0) (o .1))
-    | no g ↦ rw (le-ltb (nextTask p j) tasks (omega arith)) (none-left (omega arith))
+    | no g ↦ rw (le-ltb (nextTask p j) mostTasks (omega arith)) (none-left (omega arith))
   ]

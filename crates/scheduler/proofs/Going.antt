@@ -9,11 +9,12 @@ use lib.Dec.{ltb}
 use borrow.Author.Tests.{lt-ltb, eq-eqb, ne-eqb, ltb-true, ltb-false}
 use Rattle.search.specs.Words.{if_then_else_}
 use Rattle.search.proofs.Tests.{and-left, and-right}
-use Rattle.processors.specs.Limits.{processors, tasks, nobody, preemptable}
+use Rattle.numbers.specs.Limits.{mostProcessors, mostTasks, nobody}
+use Rattle.processors.specs.Modes.{preemptable}
 use Rattle.processors.specs.Words.{link, runs, rankOf, modeOf, runOf, isHigher, placeOn}
 use Rattle.scheduler.specs.Leaving.{nextTask, leavingFrom, leaving, givingWay}
 use Rattle.scheduler.specs.Placed.{Runnable, Settled, Placed, Unlinked}
-use Rattle.scheduler.specs.Changes.{Apart, Raises, Lowers}
+use Rattle.scheduler.specs.Changes.{Apart, Inherits, Restores}
 use Rattle.processors.specs.declared.Jobs.{Jobs}
 use Rattle.processors.specs.declared.Processors.{Processors}
 use Rattle.scheduler.proofs.Finds.{run-here, next-is}
@@ -21,7 +22,7 @@ use Rattle.scheduler.proofs.Moves.{Put, put-place, put-at, clear, rejob
 use Rattle.scheduler.proofs.Freed.{refilled-placed}
 
 -- ---- t, preemptable, runs
-module _ (p : Processors) (j : Jobs) (t : ℕ) (P : Placed p j) (t-in : t < tasks) (on : runOf p t < processors) (soft : modeOf j t ≡ preemptable) where
+module _ (p : Processors) (j : Jobs) (t : ℕ) (P : Placed p j) (t-in : t < mostTasks) (on : runOf p t < mostProcessors) (soft : modeOf j t ≡ preemptable) where
   -- the processor of t, and the processors with it freed
   abbrev k : ℕ
   k = runOf p t
@@ -71,7 +72,7 @@ module _ (p : Processors) (j : Jobs) (t : ℕ) (P : Placed p j) (t-in : t < task
       (refilled-placed freed j′ k S used (put-at p freed k nobody nobody W .0) others apart)
 
   -- ---- t is not runnable any more, and h may take its rank
-  module _ (j′ : Jobs) (h : ℕ) (L : Raises j j′ t h) where
+  module _ (j′ : Jobs) (h : ℕ) (L : Inherits j j′ t h) where
     not-gone : (u : ℕ) → Runnable j′ u → u ≢ t
     not-gone u r e = L .gone (subst (Runnable j′) e r)
 
@@ -88,7 +89,7 @@ module _ (p : Processors) (j : Jobs) (t : ℕ) (P : Placed p j) (t-in : t < task
         (λ u r q. inl (sym (L .modes u (not-gone u r)) ∙ q))
 
     risen : (u : ℕ) → u ≢ t → rankOf j′ u ≤ rankOf j u
-    risen u d = elim (ℕ-discrete u h) [ yes e ↦ omega (arith, ap (rankOf j) e, ap (rankOf j′) e, L .up) | no e ↦ omega (arith, L .others u d e) ]
+    risen u d = elim (ℕ-discrete u h) [ yes e ↦ omega (arith, ap (rankOf j) e, ap (rankOf j′) e, L .rank-falls) | no e ↦ omega (arith, L .others u d e) ]
 
     -- h, risen to t's rank and unlinked, is the next
     holder-next : rankOf j′ h ≡ rankOf j t → Runnable j′ h → Unlinked freed h → h ≡ nextTask freed j′
@@ -116,7 +117,7 @@ module _ (p : Processors) (j : Jobs) (t : ℕ) (P : Placed p j) (t-in : t < task
         other-links j′ m v b (λ f. (o .0, omega (arith, o .1, risen (link p m) f)))) (L .apart)
 
   -- ---- t's priority is restored
-  module _ (j′ : Jobs) (L : Lowers j j′ t) where
+  module _ (j′ : Jobs) (L : Restores j j′ t) where
     still-settled : Settled p j′
     still-settled =
         let keep : (u : ℕ) → Runnable j u → Runnable j′ u = λ u r. record { task = r .task; mode = omega (arith, r .mode, L .modes u) } in
@@ -156,16 +157,16 @@ module _ (p : Processors) (j : Jobs) (t : ℕ) (P : Placed p j) (t-in : t < task
 
     pub gives-way-placed : Placed (givingWay p j′ t) j′
     unfolding givingWay
-    gives-way-placed = go (ltb u tasks && isHigher j′ u t) refl
+    gives-way-placed = go (ltb u mostTasks && isHigher j′ u t) refl
       where
         u : ℕ
         u = nextTask p j′
 
-        go : (b : Bool) → (ltb u tasks && isHigher j′ u t) ≡ b → Placed (if b then leaving p j′ t else p) j′
+        go : (b : Bool) → (ltb u mostTasks && isHigher j′ u t) ≡ b → Placed (if b then leaving p j′ t else p) j′
         go true q =
             let N = next-is p j′ (P .settled .sized) .one (ltb-true _ _ (and-left _ _ q)) in
-            stops u (N .0) (N .1) (ltb-true _ _ (and-right (ltb u tasks) _ q))
+            stops u (N .0) (N .1) (ltb-true _ _ (and-right (ltb u mostTasks) _ q))
         go false q = stays (λ v r n.
             let b = next-is p j′ (P .settled .sized) .top v r n in
-            let c : rankOf j′ t ≤ rankOf j′ u = ltb-false _ _ (rw (lt-ltb u tasks (b .0)) at q) in
+            let c : rankOf j′ t ≤ rankOf j′ u = ltb-false _ _ (rw (lt-ltb u mostTasks (b .0)) at q) in
             omega (arith, b .1))

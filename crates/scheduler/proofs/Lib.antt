@@ -7,3 +7,5 @@ pub mod Staying
 pub mod Counting
 pub mod Waits
 pub mod Laws
+pub mod Testing
+pub mod Sample

@@ -6,7 +6,8 @@ use native.Mathlib.Omega.{arith}
 use native.Mathlib.Decide.{ℕ-discrete}
 use lib.ListN.{length-set}
 use lib.Seq.{getD-set-same, getD-set-other}
-use Rattle.processors.specs.Limits.{processors, nobody, preemptable, nonPreemptable}
+use Rattle.numbers.specs.Limits.{mostProcessors, nobody}
+use Rattle.processors.specs.Modes.{preemptable, nonPreemptable}
 use Rattle.processors.specs.Words.{link, runs, modeOf, placeOn, linkOn}
 use Rattle.scheduler.specs.Placed.{Runnable, Sized, Settled, Unlinked}
 use Rattle.processors.specs.declared.Jobs.{Jobs}
@@ -18,7 +19,7 @@ pub record Put (p p′ : Processors) (k a v : ℕ) : Type 0 where
   pub sized : Sized p′
   pub view : (m : ℕ) → ((m ≡ k) × (link p′ m ≡ a) × (runs p′ m ≡ v)) ⊎ ((m ≢ k) × (link p′ m ≡ link p m) × (runs p′ m ≡ runs p m))
 
-module _ (p : Processors) (k t : ℕ) (Z : Sized p) (l : k < processors) where
+module _ (p : Processors) (k t : ℕ) (Z : Sized p) (l : k < mostProcessors) where
   pub put-place : Put p (placeOn p k t) k t t
   put-place = record {
     count = refl;
@@ -58,8 +59,8 @@ module _ (p p′ : Processors) (j : Jobs) (k : ℕ) (S : Settled p j) (l : k < p
     fits = omega (arith, W .count, S .fits);
     linked-runnable = λ m h. ⊎-elim (λ x. absurd (h (x .1))) (λ x. rw (x .1) (S .linked-runnable m (omega arith))) (W .view m);
     linked-once = λ a b h q. ⊎-elim (λ x. absurd (h (x .1))) (λ x. ⊎-elim (λ y. absurd (omega arith)) (λ y. S .linked-once a b (omega arith) (omega arith)) (W .view b)) (W .view a);
-    idle = λ m h. ⊎-elim (λ x. x .2) (λ x. x .2 ∙ S .idle m (omega arith)) (W .view m);
-    busy = λ m h z. ⊎-elim (λ x. h (x .1)) (λ x. S .busy m (omega arith) (omega arith)) (W .view m);
+    unlinked-idle = λ m h. ⊎-elim (λ x. x .2) (λ x. x .2 ∙ S .unlinked-idle m (omega arith)) (W .view m);
+    linked-busy = λ m h z. ⊎-elim (λ x. h (x .1)) (λ x. S .linked-busy m (omega arith) (omega arith)) (W .view m);
     running-runnable = λ m h. ⊎-elim (λ x. absurd (h (x .2))) (λ x. rw (x .2) (S .running-runnable m (omega arith))) (W .view m);
     running-once = λ a b h q. ⊎-elim (λ x. absurd (h (x .2))) (λ x. ⊎-elim (λ y. absurd (omega arith)) (λ y. S .running-once a b (omega arith) (omega arith)) (W .view b)) (W .view a);
     running-linked = λ a b h q. ⊎-elim (λ x. absurd (h (x .2))) (λ x. ⊎-elim (λ y. absurd (omega arith)) (λ y. S .running-linked a b (omega arith) (omega arith)) (W .view b)) (W .view a);
@@ -81,7 +82,7 @@ module _ (p p′ : Processors) (j : Jobs) (k : ℕ) (S : Settled p j) (l : k < p
         (λ x. ⊎-elim (λ y. absurd (new a (omega arith))) (λ y. S .linked-once a b (omega arith) (omega arith)) (W .view b)) (W .view a)
 
     new-idle : (v : ℕ) → Put p p′ k u v → (m : ℕ) → link p′ m ≡ nobody → runs p′ m ≡ nobody
-    new-idle v W m h = ⊎-elim (λ x. absurd (omega (arith, R .task))) (λ x. x .2 ∙ S .idle m (omega arith)) (W .view m)
+    new-idle v W m h = ⊎-elim (λ x. absurd (omega (arith, R .task))) (λ x. x .2 ∙ S .unlinked-idle m (omega arith)) (W .view m)
 
     new-beyond : (v : ℕ) → Put p p′ k u v → (m : ℕ) → p′ .count ≤ m → (link p′ m ≡ nobody) × (runs p′ m ≡ nobody)
     new-beyond v W m h = ⊎-elim (λ x. absurd (omega (arith, W .count))) (λ x. let b = S .beyond m (omega (arith, W .count)) in omega arith) (W .view m)
@@ -93,8 +94,8 @@ module _ (p p′ : Processors) (j : Jobs) (k : ℕ) (S : Settled p j) (l : k < p
       fits = omega (arith, W .count, S .fits);
       linked-runnable = new-runnable u W;
       linked-once = new-once u W;
-      idle = new-idle u W;
-      busy = λ m h z. ⊎-elim (λ x. omega (arith, R .task)) (λ x. S .busy m (omega arith) (omega arith)) (W .view m);
+      unlinked-idle = new-idle u W;
+      linked-busy = λ m h z. ⊎-elim (λ x. omega (arith, R .task)) (λ x. S .linked-busy m (omega arith) (omega arith)) (W .view m);
       running-runnable = λ m h. ⊎-elim (λ x. rw (x .2) R) (λ x. rw (x .2) (S .running-runnable m (omega arith))) (W .view m);
       running-once = λ a b h q.
           ⊎-elim (λ x. ⊎-elim (λ y. omega arith) (λ y. absurd (fresh b (omega arith))) (W .view b))
@@ -105,7 +106,7 @@ module _ (p p′ : Processors) (j : Jobs) (k : ℕ) (S : Settled p j) (l : k < p
       preemptable-linked = λ m h q. ⊎-elim (λ x. omega arith) (λ x. x .1 ∙ S .preemptable-linked m (omega arith) (rw (x .2) at q) ∙ sym (x .2)) (W .view m);
       nonpreemptable-runs = λ v h q.
           let was = S .nonpreemptable-runs v h q in
-          ⊎-elim (λ x. absurd (omega (arith, S .idle k free, ap (runs p) (x .0)))) (λ x. (was .0, x .2 ∙ was .1)) (W .view (was .0));
+          ⊎-elim (λ x. absurd (omega (arith, S .unlinked-idle k free, ap (runs p) (x .0)))) (λ x. (was .0, x .2 ∙ was .1)) (W .view (was .0));
       beyond = new-beyond u W;
     }
 
@@ -118,8 +119,8 @@ module _ (p p′ : Processors) (j : Jobs) (k : ℕ) (S : Settled p j) (l : k < p
           fits = omega (arith, W .count, S .fits);
           linked-runnable = new-runnable (runs p k) W;
           linked-once = new-once (runs p k) W;
-          idle = new-idle (runs p k) W;
-          busy = λ m h z. ⊎-elim (λ x. S .busy k had (omega arith)) (λ x. S .busy m (omega arith) (omega arith)) (W .view m);
+          unlinked-idle = new-idle (runs p k) W;
+          linked-busy = λ m h z. ⊎-elim (λ x. S .linked-busy k had (omega arith)) (λ x. S .linked-busy m (omega arith) (omega arith)) (W .view m);
           running-runnable = λ m h. rw (still m) (S .running-runnable m (omega (arith, still m)));
           running-once = λ a b h q. S .running-once a b (omega (arith, still a)) (omega (arith, still a, still b));
           running-linked = λ a b h q.
@@ -144,8 +145,8 @@ rejob p j j′ S linked running soft hard = record {
   fits = S .fits;
   linked-runnable = λ m h. linked m h (S .linked-runnable m h);
   linked-once = S .linked-once;
-  idle = S .idle;
-  busy = S .busy;
+  unlinked-idle = S .unlinked-idle;
+  linked-busy = S .linked-busy;
   running-runnable = λ m h. running m h (S .running-runnable m h);
   running-once = S .running-once;
   running-linked = S .running-linked;

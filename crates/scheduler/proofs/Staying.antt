@@ -5,11 +5,12 @@ use mathlib.Core.Logic.{_≢_, _⊎_, inl, inr, ⊎-elim}
 use native.Mathlib.Omega.{arith}
 use native.Mathlib.Decide.{ℕ-discrete}
 use borrow.Author.Tests.{lt-ltb, eq-eqb, ne-eqb}
-use Rattle.processors.specs.Limits.{processors, tasks, nobody, preemptable, nonPreemptable}
+use Rattle.numbers.specs.Limits.{mostProcessors, mostTasks, nobody}
+use Rattle.processors.specs.Modes.{preemptable, nonPreemptable}
 use Rattle.processors.specs.Words.{link, runs, rankOf, modeOf, runOf, placeOn}
 use Rattle.scheduler.specs.Leaving.{becomingPreemptable}
 use Rattle.scheduler.specs.Placed.{Runnable, Settled, Placed, Unlinked}
-use Rattle.scheduler.specs.Changes.{Alike, Hardens, Softens}
+use Rattle.scheduler.specs.Changes.{Alike, BecomesNonPreemptable, BecomesPreemptable}
 use Rattle.processors.specs.declared.Jobs.{Jobs}
 use Rattle.processors.specs.declared.Processors.{Processors}
 use Rattle.scheduler.proofs.Finds.{run-here}
@@ -55,27 +56,27 @@ even-but j j′ t a b others ranks = record {
 }
 
 -- ---- t runs
-module _ (p : Processors) (j j′ : Jobs) (t : ℕ) (P : Placed p j) (t-in : t < tasks) (on : runOf p t < processors) where
+module _ (p : Processors) (j j′ : Jobs) (t : ℕ) (P : Placed p j) (t-in : t < mostTasks) (on : runOf p t < mostProcessors) where
   abbrev k : ℕ
   k = runOf p t
 
   here : runs p k ≡ t
   here = run-here p t on
 
-  pub harden-placed : Hardens j j′ t → Placed p j′
+  pub harden-placed : BecomesNonPreemptable j j′ t → Placed p j′
   harden-placed H =
-      stays p j j′ P (even-but j j′ t (H .runnable) (omega (arith, H .hard)) (H .others) (H .ranks))
-      (λ m _ q. elim (ℕ-discrete (runs p m) t) [ yes e ↦ absurd (omega (arith, ap (modeOf j′) e, H .hard)) | no d ↦ inl (sym (H .others _ d) ∙ q) ])
+      stays p j j′ P (even-but j j′ t (H .runnable) (omega (arith, H .mode)) (H .others) (H .ranks))
+      (λ m _ q. elim (ℕ-discrete (runs p m) t) [ yes e ↦ absurd (omega (arith, ap (modeOf j′) e, H .mode)) | no d ↦ inl (sym (H .others _ d) ∙ q) ])
       (λ u _ q. elim (ℕ-discrete u t) [ yes e ↦ inr (k, here ∙ sym e) | no d ↦ inl (sym (H .others u d) ∙ q) ])
 
   -- ---- t becomes preemptable
-  module _ (B : Softens j j′ t) where
+  module _ (B : BecomesPreemptable j j′ t) where
     even : Even j j′
-    even = even-but j j′ t (B .runnable) (omega (arith, B .soft)) (B .others) (B .ranks)
+    even = even-but j j′ t (B .runnable) (omega (arith, B .mode)) (B .others) (B .ranks)
 
     -- who is non-preemptable after is not t
     hard : (u : ℕ) → modeOf j′ u ≡ nonPreemptable → (u ≢ t) × (modeOf j u ≡ nonPreemptable)
-    hard u q = let d : u ≢ t = λ e. omega (arith, ap (modeOf j′) e, B .soft) in (d, sym (B .others u d) ∙ q)
+    hard u q = let d : u ≢ t = λ e. omega (arith, ap (modeOf j′) e, B .mode) in (d, sym (B .others u d) ∙ q)
 
     -- k is linked to t: nothing moves
     kept : link p k ≡ t → Placed p j′
@@ -105,8 +106,8 @@ module _ (p : Processors) (j j′ : Jobs) (t : ℕ) (P : Placed p j) (t-in : t <
           fits = omega (arith, W .count, S .fits);
           linked-runnable = λ m h. rw (same m) (even .keep _ (S .linked-runnable m (omega (arith, same m))));
           linked-once = λ a b h q. S .linked-once a b (omega (arith, same a)) (omega (arith, same a, same b));
-          idle = λ m h. ⊎-elim (λ x. absurd (had (sym (x .1) ∙ h))) (λ x. x .2 ∙ S .idle m (omega arith)) (W .view m);
-          busy = λ m h z. ⊎-elim (λ x. had (sym (x .2) ∙ z)) (λ x. S .busy m (omega arith) (omega arith)) (W .view m);
+          unlinked-idle = λ m h. ⊎-elim (λ x. absurd (had (sym (x .1) ∙ h))) (λ x. x .2 ∙ S .unlinked-idle m (omega arith)) (W .view m);
+          linked-busy = λ m h z. ⊎-elim (λ x. had (sym (x .2) ∙ z)) (λ x. S .linked-busy m (omega arith) (omega arith)) (W .view m);
           running-runnable = λ m h.
               ⊎-elim (λ x. rw (x .2) (even .keep _ (S .linked-runnable k had))) (λ x. rw (x .2) (even .keep _ (S .running-runnable m (omega arith)))) (W .view m);
           running-once = λ a b h q.
@@ -132,7 +133,7 @@ module _ (p : Processors) (j j′ : Jobs) (t : ℕ) (P : Placed p j) (t-in : t <
     pub soften-placed : Placed (becomingPreemptable p t) j′
     unfolding becomingPreemptable
     soften-placed =
-        let had : link p k ≢ nobody = λ e. omega (arith, here, P .settled .idle k e) in
+        let had : link p k ≢ nobody = λ e. omega (arith, here, P .settled .unlinked-idle k e) in
         elim (ℕ-discrete (link p k) t) [
           | yes own ↦ rw (lt-ltb _ _ on, eq-eqb _ _ (own ∙ sym here), ne-eqb _ _ had) (kept own)
           | no d ↦ rw (lt-ltb _ _ on, ne-eqb _ _ (let e : link p k ≢ runs p k = λ e. d (e ∙ here) in e), ne-eqb _ _ had)

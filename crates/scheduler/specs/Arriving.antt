@@ -5,7 +5,8 @@ use lib.Dec.{ltb}
 use Rattle.search.specs.Words.{if_then_else_, _is_}
 use Rattle.search.specs.First.{first}
 use Rattle.search.specs.Best.{best}
-use Rattle.processors.specs.Limits.{processors, nobody, preemptable}
+use Rattle.numbers.specs.Limits.{mostProcessors, nobody}
+use Rattle.processors.specs.Modes.{preemptable}
 use Rattle.processors.specs.Words.{modeOf, link, runs, isHigher, placeOn, linkOn}
 use Rattle.processors.specs.declared.Jobs.{Jobs}
 use Rattle.processors.specs.declared.Processors.{Processors}
@@ -17,9 +18,9 @@ isUsed p k = ltb k (p .count)
 abbrev pub isFree : Processors → ℕ → Bool
 isFree p k = isUsed p k && link p k is nobody
 
--- the lowest-numbered unlinked processor, or `processors` where there is none
+-- the lowest-numbered unlinked processor, or `mostProcessors` where there is none
 unfoldable pub lowestFree : Processors → ℕ
-lowestFree p = first (isFree p) 0 processors
+lowestFree p = first (isFree p) 0 mostProcessors
 
 -- the link of processor a has a lower priority than that of b
 abbrev pub linksLower : Processors → Jobs → ℕ → ℕ → Bool
@@ -27,27 +28,27 @@ linksLower p j a b = isHigher j (link p b) (link p a)
 
 -- the processor with the lowest-priority linked job
 unfoldable pub lowestLinked : Processors → Jobs → ℕ
-lowestLinked p j = best (isUsed p) (linksLower p j) processors processors
+lowestLinked p j = best (isUsed p) (linksLower p j) mostProcessors mostProcessors
 
 -- the job linked to processor k is running and preemptable
-abbrev pub isPreempted : Processors → Jobs → ℕ → Bool
-isPreempted p j k = runs p k is link p k && modeOf j (link p k) is preemptable
+abbrev pub canPreempt : Processors → Jobs → ℕ → Bool
+canPreempt p j k = runs p k is link p k && modeOf j (link p k) is preemptable
 
 -- Otherwise compare with the lowest-priority linked job, that of processor k: if the comer t is higher it takes that link,
 -- and runs at once only if the displaced job is running and preemptable.
 unfoldable pub displacing : Processors → Jobs → ℕ → ℕ → Processors
 displacing p j t k =
-    if ltb k processors && isHigher j t (link p k) then
-    if isPreempted p j k then placeOn p k t else linkOn p k t
+    if ltb k mostProcessors && isHigher j t (link p k) then
+    if canPreempt p j k then placeOn p k t else linkOn p k t
     else p
 
--- With an unlinked processor k, link to it and run there. k is the one taken, or `processors` where there is none.
+-- With an unlinked processor k, link to it and run there. k is the one taken, or `mostProcessors` where there is none.
 unfoldable pub arrivingOn : Processors → Jobs → ℕ → ℕ → Processors
-arrivingOn p j t k = if ltb k processors then placeOn p k t else displacing p j t (lowestLinked p j)
+arrivingOn p j t k = if ltb k mostProcessors then placeOn p k t else displacing p j t (lowestLinked p j)
 
 -- the processor taken where k is suggested: k, if it is unlinked; else the lowest-numbered such processor
 unfoldable pub taken : Processors → ℕ → ℕ
-taken p k = if ltb k processors && isFree p k then k else lowestFree p
+taken p k = if ltb k mostProcessors && isFree p k then k else lowestFree p
 
 -- t arrives or resumes, and processor k is suggested; `nobody` suggests none, which is the choice of document 01
 unfoldable pub arriving : Processors → Jobs → ℕ → ℕ → Processors

@@ -2,7 +2,8 @@
 use Prim.Native.Nat.{ℕ, _<_, _≤_}
 use mathlib.Core.Path.{_≡_}
 use mathlib.Core.Logic.{_≢_, _⊎_}
-use Rattle.processors.specs.Limits.{processors, tasks, nobody, preemptable, nonPreemptable}
+use Rattle.numbers.specs.Limits.{mostProcessors, mostTasks, nobody}
+use Rattle.processors.specs.Modes.{preemptable, nonPreemptable}
 use Rattle.processors.specs.Words.{link, rankOf, modeOf}
 use Rattle.scheduler.specs.Placed.{Runnable}
 use Rattle.processors.specs.declared.Jobs.{Jobs}
@@ -19,30 +20,30 @@ pub record Alike (j j′ : Jobs) : Type 0 where
 
 -- t, not runnable, becomes preemptable: it arrives or resumes
 pub record Joins (j j′ : Jobs) (t : ℕ) : Type 0 where
-  pub task : t < tasks
+  pub task : t < mostTasks
   pub gone : Runnable j t → ⊥
-  pub soft : modeOf j′ t ≡ preemptable
+  pub mode : modeOf j′ t ≡ preemptable
   pub others : (u : ℕ) → u ≢ t → (rankOf j′ u ≡ rankOf j u) × (modeOf j′ u ≡ modeOf j u)
   pub apart : Apart j′
 
 -- t, runnable, becomes non-preemptable
-pub record Hardens (j j′ : Jobs) (t : ℕ) : Type 0 where
+pub record BecomesNonPreemptable (j j′ : Jobs) (t : ℕ) : Type 0 where
   pub runnable : preemptable ≤ modeOf j t
-  pub hard : modeOf j′ t ≡ nonPreemptable
+  pub mode : modeOf j′ t ≡ nonPreemptable
   pub others : (u : ℕ) → u ≢ t → modeOf j′ u ≡ modeOf j u
   pub ranks : (u : ℕ) → rankOf j′ u ≡ rankOf j u
 
 -- t, runnable, becomes preemptable
-pub record Softens (j j′ : Jobs) (t : ℕ) : Type 0 where
+pub record BecomesPreemptable (j j′ : Jobs) (t : ℕ) : Type 0 where
   pub runnable : preemptable ≤ modeOf j t
-  pub soft : modeOf j′ t ≡ preemptable
+  pub mode : modeOf j′ t ≡ preemptable
   pub others : (u : ℕ) → u ≢ t → modeOf j′ u ≡ modeOf j u
   pub ranks : (u : ℕ) → rankOf j′ u ≡ rankOf j u
 
 -- t is not runnable any more, and h takes t's rank where that is higher: h inherits, then t suspends
-pub record Raises (j j′ : Jobs) (t h : ℕ) : Type 0 where
+pub record Inherits (j j′ : Jobs) (t h : ℕ) : Type 0 where
   pub gone : Runnable j′ t → ⊥
-  pub up : rankOf j′ h ≤ rankOf j h
+  pub rank-falls : rankOf j′ h ≤ rankOf j h
   pub by : (rankOf j′ h ≡ rankOf j h) ⊎ (rankOf j′ h ≡ rankOf j t)
   pub others : (u : ℕ) → u ≢ t → u ≢ h → rankOf j′ u ≡ rankOf j u
   pub modes : (u : ℕ) → u ≢ t → modeOf j′ u ≡ modeOf j u
@@ -55,13 +56,13 @@ pub record Leaves (j j′ : Jobs) (t : ℕ) : Type 0 where
   pub apart : Apart j′
 
 -- t's rank rises: its priority is restored
-pub record Lowers (j j′ : Jobs) (t : ℕ) : Type 0 where
-  pub down : rankOf j t ≤ rankOf j′ t
+pub record Restores (j j′ : Jobs) (t : ℕ) : Type 0 where
+  pub rank-rises : rankOf j t ≤ rankOf j′ t
   pub others : (u : ℕ) → u ≢ t → rankOf j′ u ≡ rankOf j u
   pub modes : (u : ℕ) → modeOf j′ u ≡ modeOf j u
   pub apart : Apart j′
 
 -- k is an unlinked processor; or there is none, and k is no processor
 pub record Chosen (p : Processors) (k : ℕ) : Type 0 where
-  pub free : k < processors → (k < p .count) × (link p k ≡ nobody)
-  pub none : processors ≤ k → (m : ℕ) → m < p .count → link p m ≢ nobody
+  pub free : k < mostProcessors → (k < p .count) × (link p k ≡ nobody)
+  pub none : mostProcessors ≤ k → (m : ℕ) → m < p .count → link p m ≢ nobody

@@ -5,30 +5,31 @@ use mathlib.Core.Logic.{_≢_, _↔_}
 use lib.ListN.{length}
 use Rattle.search.specs.Words.{_isn't_}
 use Rattle.search.specs.Below.{howMany}
-use Rattle.processors.specs.Limits.{processors, tasks, nobody, preemptable, nonPreemptable}
+use Rattle.numbers.specs.Limits.{mostProcessors, mostTasks, nobody}
+use Rattle.processors.specs.Modes.{preemptable, nonPreemptable}
 use Rattle.processors.specs.Words.{link, runs, runOf, rankOf, modeOf, isRunnable, isAhead}
 use Rattle.processors.specs.declared.Jobs.{Jobs}
 use Rattle.processors.specs.declared.Processors.{Processors}
 
 pub record Runnable (j : Jobs) (t : ℕ) : Type 0 where
-  pub task : t < tasks
+  pub task : t < mostTasks
   pub mode : preemptable ≤ modeOf j t
 
 -- the arrays have their lengths; what the types say, and no test has to
 pub record Sized (p : Processors) : Type 0 where
-  pub links : length (p .linked) ≡ processors
-  pub runnings : length (p .running) ≡ processors
+  pub links : length (p .linked) ≡ mostProcessors
+  pub runnings : length (p .running) ≡ mostProcessors
 
 -- links and placements, but for which of the runnable jobs are linked
 pub record Settled (p : Processors) (j : Jobs) : Type 0 where
   pub sized : Sized p
-  pub fits : p .count ≤ processors
+  pub fits : p .count ≤ mostProcessors
   -- linked jobs are runnable, each linked once
   pub linked-runnable : (k : ℕ) → link p k ≢ nobody → Runnable j (link p k)
   pub linked-once : (k m : ℕ) → link p k ≢ nobody → link p k ≡ link p m → k ≡ m
   -- a processor without a link is idle, one with a link is not
-  pub idle : (k : ℕ) → link p k ≡ nobody → runs p k ≡ nobody
-  pub busy : (k : ℕ) → link p k ≢ nobody → runs p k ≢ nobody
+  pub unlinked-idle : (k : ℕ) → link p k ≡ nobody → runs p k ≡ nobody
+  pub linked-busy : (k : ℕ) → link p k ≢ nobody → runs p k ≢ nobody
   -- only runnable jobs run, each once, and if linked, linked there
   pub running-runnable : (k : ℕ) → runs p k ≢ nobody → Runnable j (runs p k)
   pub running-once : (k m : ℕ) → runs p k ≢ nobody → runs p k ≡ runs p m → k ≡ m
@@ -36,7 +37,7 @@ pub record Settled (p : Processors) (j : Jobs) : Type 0 where
   -- a preemptable running job is linked
   pub preemptable-linked : (k : ℕ) → runs p k ≢ nobody → modeOf j (runs p k) ≡ preemptable → link p k ≡ runs p k
   -- every non-preemptable job runs
-  pub nonpreemptable-runs : (t : ℕ) → t < tasks → modeOf j t ≡ nonPreemptable → (k : ℕ) × (runs p k ≡ t)
+  pub nonpreemptable-runs : (t : ℕ) → t < mostTasks → modeOf j t ≡ nonPreemptable → (k : ℕ) × (runs p k ≡ t)
   -- processors from the count on have neither
   pub beyond : (k : ℕ) → p .count ≤ k → (link p k ≡ nobody) × (runs p k ≡ nobody)
 
@@ -53,18 +54,18 @@ pub record Placed (p : Processors) (j : Jobs) : Type 0 where
 -- the same by counting: linked are the runnable jobs with fewer than `count` runnable jobs of higher priority, as many as
 -- there are processors or runnable jobs, if fewer
 pub record Counted (p : Processors) (j : Jobs) : Type 0 where
-  pub highest : (t : ℕ) → t < tasks
-      → ((k : ℕ) × (link p k ≡ t)) ↔ (Runnable j t × (howMany (isAhead j t) tasks < p .count))
-  pub many : howMany (λ k. link p k isn't nobody) processors ≡ min (p .count) (howMany (isRunnable j) tasks)
+  pub highest : (t : ℕ) → t < mostTasks
+      → ((k : ℕ) × (link p k ≡ t)) ↔ (Runnable j t × (howMany (isAhead j t) mostTasks < p .count))
+  pub many : howMany (λ k. link p k isn't nobody) mostProcessors ≡ min (p .count) (howMany (isRunnable j) mostTasks)
 
 -- what is owed, by this scheduler or another, to those above it: who runs is runnable, and every non-preemptable job runs, on
 -- one of the processors that there are
 pub record Served (p : Processors) (j : Jobs) : Type 0 where
-  pub runnable : (t : ℕ) → t < tasks → runOf p t < processors → Runnable j t
-  pub hard : (t : ℕ) → t < tasks → modeOf j t ≡ nonPreemptable → (runOf p t < p .count) × (runs p (runOf p t) ≡ t)
+  pub runnable : (t : ℕ) → t < mostTasks → runOf p t < mostProcessors → Runnable j t
+  pub nonpreemptable : (t : ℕ) → t < mostTasks → modeOf j t ≡ nonPreemptable → (runOf p t < p .count) × (runs p (runOf p t) ≡ t)
 
 -- t is linked but not running
 pub record LinkedOnly (p : Processors) (t : ℕ) : Type 0 where
-  pub task : t < tasks
+  pub task : t < mostTasks
   pub linked : (k : ℕ) × (link p k ≡ t)
   pub waits : (k : ℕ) → runs p k ≢ t

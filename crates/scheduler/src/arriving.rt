@@ -1,4 +1,5 @@
 // Arrive or resume.
+use numbers::Limit;
 use processors::Jobs;
 use processors::Processors;
 use processors::is_higher;
@@ -11,14 +12,14 @@ ghost use mathlib.Core.Path.{_≡_};
 ghost use mathlib.Core.List.{[]};
 ghost use Rattle.search.specs.First.{bit, mask};
 ghost use Rattle.search.specs.Best.{better};
-ghost use Rattle.processors.specs.Limits.{processors};
-ghost use Rattle.processors.specs.Words.{told};
-ghost use Rattle.scheduler.specs.Arriving.{isUsed, isFree, lowestFree, linksLower, lowestLinked, isPreempted, displacing, taken, arriving};
+ghost use Rattle.numbers.specs.Limits.{mostProcessors};
+ghost use Rattle.processors.specs.Words.{jobsFrom};
+ghost use Rattle.scheduler.specs.Arriving.{isUsed, isFree, lowestFree, linksLower, lowestLinked, canPreempt, displacing, taken, arriving};
 
 fn is_free(p: Processors, k: usize) -> bool
     ensures { λ r. ⌜ r ≡ isFree p k ⌝ }
 {
-    (k < p.count) & (link_at(p, k) == Processors::NOBODY)
+    (k < p.count) & (link_at(p, k) == Limit::NOBODY)
 }
 
 fn bit_of(b: bool) -> u32
@@ -29,7 +30,7 @@ fn bit_of(b: bool) -> u32
 
 // The unlinked processors: bit k is processor k.
 fn free_mask(p: Processors) -> u32
-    ensures { λ r. ⌜ r ≡ mask (isFree p) 0 processors ⌝ }
+    ensures { λ r. ⌜ r ≡ mask (isFree p) 0 mostProcessors ⌝ }
 {
     let mut free: u32 = 0;
     for n in 0..Processors::LIMIT {
@@ -40,7 +41,7 @@ fn free_mask(p: Processors) -> u32
 
 // The better of processor `k` and the best so far, where the better is the one with the lower-priority link.
 fn lower_link(p: Processors, ranks: &[u64; Jobs::LIMIT], k: usize, best: usize) -> usize
-    ensures { λ r. ⌜ r ≡ better (isUsed p) (linksLower p (told (now (ranks .entry)) [])) processors k best ⌝ }
+    ensures { λ r. ⌜ r ≡ better (isUsed p) (linksLower p (jobsFrom (now (ranks .entry)) [])) mostProcessors k best ⌝ }
 {
     if k < p.count {
         if best == Processors::LIMIT {
@@ -56,7 +57,7 @@ fn lower_link(p: Processors, ranks: &[u64; Jobs::LIMIT], k: usize, best: usize) 
 
 // The processor with the lowest-priority linked job.
 fn lowest_linked(p: Processors, ranks: &[u64; Jobs::LIMIT]) -> usize
-    ensures { λ r. ⌜ r ≡ lowestLinked p (told (now (ranks .entry)) []) ⌝ }
+    ensures { λ r. ⌜ r ≡ lowestLinked p (jobsFrom (now (ranks .entry)) []) ⌝ }
 {
     let mut best = Processors::LIMIT;
     for k in 0..Processors::LIMIT {
@@ -66,8 +67,8 @@ fn lowest_linked(p: Processors, ranks: &[u64; Jobs::LIMIT]) -> usize
 }
 
 // The job linked to processor `k` is running and preemptable.
-fn is_preempted(p: Processors, modes: &[u8; Jobs::LIMIT], k: usize) -> bool
-    ensures { λ r. ⌜ r ≡ isPreempted p (told [] (now (modes .entry))) k ⌝ }
+fn can_preempt(p: Processors, modes: &[u8; Jobs::LIMIT], k: usize) -> bool
+    ensures { λ r. ⌜ r ≡ canPreempt p (jobsFrom [] (now (modes .entry))) k ⌝ }
 {
     let t = link_at(p, k);
     (runs_at(p, k) == t) & (mode_of(modes, t) == Jobs::PREEMPTABLE)
@@ -81,11 +82,11 @@ fn displace(
     t: u8,
     k: usize,
 ) -> Processors
-    ensures { λ r. ⌜ r ≡ displacing p (told (now (ranks .entry)) (now (modes .entry))) t k ⌝ }
+    ensures { λ r. ⌜ r ≡ displacing p (jobsFrom (now (ranks .entry)) (now (modes .entry))) t k ⌝ }
 {
     if k < Processors::LIMIT {
         if is_higher(ranks, t, link_at(p, k)) {
-            if is_preempted(p, modes, k) {
+            if can_preempt(p, modes, k) {
                 place_on(p, k, t)
             } else {
                 link_on(p, k, t)
@@ -119,7 +120,7 @@ fn take(p: Processors, k: usize) -> usize
 }
 
 // The job of `t` arrives or resumes, and the tables have it so: on processor `k` if it is unlinked, else on the
-// lowest-numbered that is. `Processors::NOBODY` suggests none.
+// lowest-numbered that is. `Limit::NOBODY` suggests none.
 pub fn arrive(
     p: Processors,
     ranks: &[u64; Jobs::LIMIT],
@@ -127,7 +128,7 @@ pub fn arrive(
     t: u8,
     k: u8,
 ) -> Processors
-    ensures { λ r. ⌜ r ≡ arriving p (told (now (ranks .entry)) (now (modes .entry))) t k ⌝ }
+    ensures { λ r. ⌜ r ≡ arriving p (jobsFrom (now (ranks .entry)) (now (modes .entry))) t k ⌝ }
 {
     let taken = take(p, k as usize);
     if taken < Processors::LIMIT {

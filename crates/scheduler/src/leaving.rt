@@ -1,4 +1,5 @@
 // Becoming preemptable; finish or suspend; giving way at the end of a long request.
+use numbers::Limit;
 use processors::Jobs;
 use processors::Processors;
 use processors::is_higher;
@@ -12,8 +13,8 @@ ghost use mathlib.Core.Path.{_≡_};
 ghost use Prim.Native.Nat.{min};
 ghost use mathlib.Core.List.{[]};
 ghost use Rattle.search.specs.Best.{better};
-ghost use Rattle.processors.specs.Limits.{tasks};
-ghost use Rattle.processors.specs.Words.{told, firstModes, isUnlinked, isHigher, isAwaited};
+ghost use Rattle.numbers.specs.Limits.{mostTasks};
+ghost use Rattle.processors.specs.Words.{jobsFrom, firstModes, isUnlinked, isHigher, isAwaited};
 ghost use Rattle.scheduler.specs.Leaving.{becomingPreemptable, nextTask, filling, refilling, leavingFrom, leaving, givingWay};
 
 // Processor `k` is linked to a job that it does not run.
@@ -21,7 +22,7 @@ fn is_awaited(p: Processors, k: usize) -> bool
     ensures { λ r. ⌜ r ≡ isAwaited p k ⌝ }
 {
     let t = link_at(p, k);
-    (t != Processors::NOBODY) & (t != runs_at(p, k))
+    (t != Limit::NOBODY) & (t != runs_at(p, k))
 }
 
 // A job that became preemptable where it runs lets the job run that its processor is linked to.
@@ -49,7 +50,7 @@ fn higher_task(
     best: u8,
 ) -> u8
     ensures { λ r. ⌜ r ≡ better
-        (isUnlinked p (told [] (now (modes .entry)))) (isHigher (told (now (ranks .entry)) [])) tasks t best ⌝ }
+        (isUnlinked p (jobsFrom [] (now (modes .entry)))) (isHigher (jobsFrom (now (ranks .entry)) [])) mostTasks t best ⌝ }
 {
     if is_unlinked(p, modes, t) {
         if best == Jobs::END {
@@ -64,7 +65,7 @@ fn higher_task(
 
 // The lesser of `n` and `Jobs::END`.
 fn end_of(n: usize) -> u8
-    ensures { λ r. ⌜ r ≡ min n tasks ⌝ }
+    ensures { λ r. ⌜ r ≡ min n mostTasks ⌝ }
 {
     if n < Jobs::LIMIT { n as u8 } else { Jobs::END }
 }
@@ -76,7 +77,7 @@ fn next_task(
     modes: &[u8; Jobs::LIMIT],
     tasks: usize,
 ) -> u8
-    ensures { λ r. ⌜ r ≡ nextTask p (told (now (ranks .entry)) (firstModes tasks (now (modes .entry)))) ⌝ }
+    ensures { λ r. ⌜ r ≡ nextTask p (jobsFrom (now (ranks .entry)) (firstModes tasks (now (modes .entry)))) ⌝ }
 {
     let n = end_of(tasks);
     let mut best = Jobs::END;
@@ -105,7 +106,7 @@ fn refill(
     tasks: usize,
     k: usize,
 ) -> Processors
-    ensures { λ r. ⌜ r ≡ refilling p (told (now (ranks .entry)) (firstModes tasks (now (modes .entry)))) k ⌝ }
+    ensures { λ r. ⌜ r ≡ refilling p (jobsFrom (now (ranks .entry)) (firstModes tasks (now (modes .entry)))) k ⌝ }
 {
     let u = next_task(p, ranks, modes, tasks);
     if u < Jobs::END {
@@ -122,12 +123,12 @@ fn leave_from(
     tasks: usize,
     k: usize,
 ) -> Processors
-    ensures { λ r. ⌜ r ≡ leavingFrom p (told (now (ranks .entry)) (firstModes tasks (now (modes .entry)))) k ⌝ }
+    ensures { λ r. ⌜ r ≡ leavingFrom p (jobsFrom (now (ranks .entry)) (firstModes tasks (now (modes .entry)))) k ⌝ }
 {
     if is_awaited(p, k) {
         place_on(p, k, link_at(p, k))
     } else {
-        refill(place_on(p, k, Processors::NOBODY), ranks, modes, tasks, k)
+        refill(place_on(p, k, Limit::NOBODY), ranks, modes, tasks, k)
     }
 }
 
@@ -140,7 +141,7 @@ pub fn leave(
     tasks: usize,
     t: u8,
 ) -> Processors
-    ensures { λ r. ⌜ r ≡ leaving p (told (now (ranks .entry)) (firstModes tasks (now (modes .entry)))) t ⌝ }
+    ensures { λ r. ⌜ r ≡ leaving p (jobsFrom (now (ranks .entry)) (firstModes tasks (now (modes .entry)))) t ⌝ }
 {
     let k = run_of(p, t);
     if k < Processors::LIMIT {
@@ -158,7 +159,7 @@ pub fn give_way(
     tasks: usize,
     t: u8,
 ) -> Processors
-    ensures { λ r. ⌜ r ≡ givingWay p (told (now (ranks .entry)) (firstModes tasks (now (modes .entry)))) t ⌝ }
+    ensures { λ r. ⌜ r ≡ givingWay p (jobsFrom (now (ranks .entry)) (firstModes tasks (now (modes .entry)))) t ⌝ }
 {
     let u = next_task(p, ranks, modes, tasks);
     if u < Jobs::END {

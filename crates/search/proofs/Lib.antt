@@ -3,6 +3,5 @@ pub mod Determined
 pub mod Firsts
 pub mod Masks
 pub mod Pigeons
-pub mod Refusals
 pub mod Tables
 pub mod Tests

@@ -1,4 +1,4 @@
-// Searches over the indices below a bound, lists of refusals, and tables: the definitions are in specs/, their laws in proofs/.
+// Searches over the indices below a bound, and tables: the definitions are in specs/, their laws in proofs/.
 ghost use mathlib.Core.Path.{_≡_};
 ghost use Rattle.search.specs.Words.{if_then_else_};
 
@@ -7,11 +7,4 @@ pub fn pick(passes: bool, here: usize, behind: usize) -> usize
     ensures { λ r. ⌜ r ≡ (if passes then here else behind) ⌝ }
 {
     if passes { here } else { behind }
-}
-
-// One row of a list of refusals: `number` where it applies, else what the later rows give.
-pub fn row(number: u8, applies: bool, later: u8) -> u8
-    ensures { λ r. ⌜ r ≡ (if applies then number else later) ⌝ }
-{
-    if applies { number } else { later }
 }

@@ -6,12 +6,12 @@ use native.Mathlib.Omega.{arith}
 use lib.Dec.{ltb}
 use Rattle.search.specs.Words.{_is_}
 use Rattle.search.proofs.Tests.{tests, never}
-use Rattle.input.specs.Limits.{long}
+use Rattle.input.specs.Kinds.{long}
 use Rattle.input.specs.Words.{period, kind, someTask, someResource, somePair}
-use Rattle.setups.specs.Refusals.{inLimits, isStray, isLongInShort, setUpRows, setUpRefusal}
+use Rattle.setups.specs.Refusals.{inLimits, isStray, isLongInShort, setupRows, setupRefusal}
 use Rattle.setups.specs.Accepted.{Accepted}
-use Rattle.input.specs.declared.SetUp.{SetUp}
-use Rattle.setups.proofs.Numbers.{set-up-numbers}
+use Rattle.input.specs.declared.Setup.{Setup}
+use Rattle.setups.proofs.Numbers.{setup-numbers}
 
 -- where the first passes the second does not
 pub and-none-iff : (a b : Bool) → ((a && b) ≡ false) ↔ (a ≡ true → b ≡ false)
@@ -25,11 +25,11 @@ and-none-iff a b = (there a b, back a b)
     back true b f = f refl
     back false b f = refl
 
-module _ (c : SetUp) where
-  there : setUpRefusal c ≡ 0 → Accepted c
-  unfolding setUpRows
+module _ (c : Setup) where
+  there : setupRefusal c ≡ 0 → Accepted c
+  unfolding setupRows
   there h =
-      let none = set-up-numbers c .accepted .0 h in
+      let none = setup-numbers c .accepted .0 h in
       let limits = simp tests at (none 0 (omega arith)) in
       let periods = simp (tests, and-none-iff) at (none 1 (omega arith)) in
       let kinds = simp (tests, and-none-iff) at (none 2 (omega arith)) in
@@ -46,8 +46,8 @@ module _ (c : SetUp) where
         nesting = λ i l. nesting i (omega arith) l;
       }
 
-  back : Accepted c → setUpRefusal c ≡ 0
-  unfolding setUpRefusal setUpRows
+  back : Accepted c → setupRefusal c ≡ 0
+  unfolding setupRefusal setupRows
   back a =
       let limits : not (inLimits c) ≡ false = simp tests (((a .processors, a .tasks), a .resources), a .pairs) in
       let periods : someTask c (λ t. period c t is 0) ≡ false = simp (tests, and-none-iff) (λ t m l. a .periods t l) in
@@ -57,5 +57,5 @@ module _ (c : SetUp) where
       rw (limits, periods, kinds, inside, nesting)
 
 -- the answer is 0 exactly for what is accepted
-pub accepted-iff : (c : SetUp) → (setUpRefusal c ≡ 0) ↔ Accepted c
+pub accepted-iff : (c : Setup) → (setupRefusal c ≡ 0) ↔ Accepted c
 accepted-iff c = (there c, back c)

@@ -10,17 +10,18 @@ use lib.ListN.{length, getD}
 use borrow.Author.Tests.{ltb-true, ltb-false, lt-ltb, le-ltb}
 use Rattle.search.specs.Words.{if_then_else_, _is_}
 use Rattle.search.specs.Below.{anyBelow}
-use Rattle.search.specs.Rows.{_when_, _otherwise_, firstOf}
+use Rattle.numbers.specs.Rows.{_when_, _otherwise_, firstOf}
 use Rattle.search.proofs.Tables.{table-length, table-at, table-of}
 use Rattle.search.proofs.Tests.{tests}
-use Rattle.input.specs.Limits.{mostTasks, mostResources, mostPairs, long}
+use Rattle.numbers.specs.Limits.{mostTasks, mostResources, mostPairs}
+use Rattle.input.specs.Kinds.{long}
 use Rattle.input.specs.Words.{period, kind, outerOf, innerOf, someTask, someResource, somePair}
-use Rattle.setups.specs.Refusals.{inLimits, isStray, isLongInShort, setUpRows, setUpRefusal}
+use Rattle.setups.specs.Refusals.{inLimits, isStray, isLongInShort, setupRows, setupRefusal}
 use Rattle.setups.specs.Sized.{Sized}
 use Rattle.setups.specs.Naming.{areAlike, joinedBy, namesAfter, names}
 use Rattle.setups.specs.Clearing.{below, cleared, emptyFrom, isClear}
 use Rattle.setups.specs.Unread.{RefusalKept, NamesKept}
-use Rattle.input.specs.declared.SetUp.{SetUp}
+use Rattle.input.specs.declared.Setup.{Setup}
 use Rattle.setups.proofs.Lists.{keptBelow}
 use Rattle.setups.proofs.Accepted.{and-none-iff}
 use Rattle.setups.proofs.Names.{joined-past}
@@ -77,7 +78,7 @@ last-row false false true e f g h = refl
 last-row false false false true f g h = refl
 last-row false false false false f g h = rw (h refl refl)
 
-module _ (c : SetUp) where
+module _ (c : Setup) where
   -- its tables have their lengths, whatever those of c are
   pub cleared-sized : Sized (cleared c)
   unfolding cleared
@@ -144,8 +145,8 @@ module _ (c : SetUp) where
       let inn = kind-kept (innerOf c i) (s i m l .0 .1) (omega (arith, s i m l)) in
       rw (outer-kept i l m, inner-kept i l m, out, inn))
 
-  refusal-same : setUpRefusal (cleared c) ≡ setUpRefusal c
-  unfolding setUpRefusal setUpRows cleared
+  refusal-same : setupRefusal (cleared c) ≡ setupRefusal c
+  unfolding setupRefusal setupRows cleared
   refusal-same = rw (periods-same, kinds-same, inside-same)
       (last-row (not (inLimits c)) (someTask c (λ t. period c t is 0)) (someResource c (λ r. ltb long (kind c r))) (somePair c (isStray c)) _ _ nesting-same)
 

@@ -10,12 +10,12 @@ use lib.ListN.{length, getD, length-map, List·getD-eq-default}
 use borrow.Author.Tests.{eqb-true, eqb-false, leb-true, leb-false}
 use Rattle.search.proofs.Tables.{table-length, table-at}
 use Rattle.search.proofs.Tests.{tests}
-use Rattle.input.specs.Limits.{mostResources, mostPairs, nothing}
+use Rattle.numbers.specs.Limits.{mostResources, mostPairs, nothing}
 use Rattle.input.specs.Words.{kind, outerOf, innerOf}
 use Rattle.setups.specs.Naming.{merged, joined, isJoining, joinedBy, namesAfter, names, groupOf}
 use Rattle.setups.specs.Groups.{Joins, Chained, alone, inward, outward, IsName}
 use Rattle.setups.specs.Accepted.{Accepted}
-use Rattle.input.specs.declared.SetUp.{SetUp}
+use Rattle.input.specs.declared.Setup.{Setup}
 use Rattle.setups.proofs.Lists.{getD-map, map-same}
 
 -- ---- of two names the higher gives way to the lower
@@ -46,10 +46,10 @@ ordered a b = go (leb a b) refl
     go false e = let l = leb-false a b e in inr (omega arith, omega arith)
 
 -- the name of r after the pairs below n
-label : SetUp → ℕ → ℕ → ℕ
+label : Setup → ℕ → ℕ → ℕ
 label c n r = getD (namesAfter c n) r nothing
 
-module _ (c : SetUp) where
+module _ (c : Setup) where
   after-length : (n : ℕ) → length (namesAfter c n) ≡ mostResources
   unfolding namesAfter joinedBy
   after-length zero = table-length (λ r. r) mostResources

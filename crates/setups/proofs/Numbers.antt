@@ -4,20 +4,20 @@ use mathlib.Core.Path.{_≡_, refl}
 use mathlib.Core.Bool.{true}
 use mathlib.Core.Logic.{_≢_, _↔_}
 use native.Mathlib.Omega.{arith}
-use Rattle.search.specs.Numbered.{standsAt, FirstAt}
-use Rattle.search.proofs.Refusals.{none-iff, number-iff}
-use Rattle.setups.specs.Refusals.{setUpRows, setUpRefusal}
-use Rattle.setups.specs.Numbers.{SetUpNumbers}
-use Rattle.input.specs.declared.SetUp.{SetUp}
+use Rattle.numbers.specs.Numbered.{standsAt, FirstAt}
+use Rattle.numbers.proofs.Refusals.{none-iff, number-iff}
+use Rattle.setups.specs.Refusals.{setupRows, setupRefusal}
+use Rattle.setups.specs.Numbers.{SetupNumbers}
+use Rattle.input.specs.declared.Setup.{Setup}
 
-given-at : (c : SetUp) (n i : ℕ) → n ≢ 0 → standsAt (setUpRows c) n i ≡ true → (setUpRefusal c ≡ n) ↔ FirstAt (setUpRows c) i
-unfolding setUpRefusal
-given-at c n i d m = number-iff (setUpRows c) n i d m
+given-at : (c : Setup) (n i : ℕ) → n ≢ 0 → standsAt (setupRows c) n i ≡ true → (setupRefusal c ≡ n) ↔ FirstAt (setupRows c) i
+unfolding setupRefusal
+given-at c n i d m = number-iff (setupRows c) n i d m
 
-pub set-up-numbers : (c : SetUp) → SetUpNumbers c
-unfolding setUpRows setUpRefusal
-set-up-numbers c = record {
-  accepted = none-iff (setUpRows c) refl;
+pub setup-numbers : (c : Setup) → SetupNumbers c
+unfolding setupRows setupRefusal
+setup-numbers c = record {
+  accepted = none-iff (setupRows c) refl;
   count-outside = given-at c 1 0 (λ e. omega arith) refl;
   period-zero = given-at c 2 1 (λ e. omega arith) refl;
   kind-unknown = given-at c 3 2 (λ e. omega arith) refl;

@@ -2,11 +2,12 @@
 use Prim.Native.Nat.{ℕ, _≤_, _<_}
 use mathlib.Core.Path.{_≡_}
 use mathlib.Core.Logic.{_≢_}
-use Rattle.input.specs.Limits.{mostProcessors, mostTasks, mostResources, mostPairs, short, long}
+use Rattle.numbers.specs.Limits.{mostProcessors, mostTasks, mostResources, mostPairs}
+use Rattle.input.specs.Kinds.{short, long}
 use Rattle.input.specs.Words.{period, kind, outerOf, innerOf}
-use Rattle.input.specs.declared.SetUp.{SetUp}
+use Rattle.input.specs.declared.Setup.{Setup}
 
-pub record Accepted (c : SetUp) : Type 0 where
+pub record Accepted (c : Setup) : Type 0 where
   pub processors : (1 ≤ c .processors) × (c .processors ≤ mostProcessors)
   pub tasks : (1 ≤ c .tasks) × (c .tasks ≤ mostTasks)
   pub resources : c .resources ≤ mostResources

@@ -7,14 +7,14 @@ use lib.ListN.{getD}
 use Rattle.search.specs.Words.{if_then_else_, _is_, _implies_}
 use Rattle.search.specs.Below.{allBelow}
 use Rattle.search.specs.Table.{table}
-use Rattle.input.specs.Limits.{mostTasks, mostResources, mostPairs}
-use Rattle.input.specs.declared.SetUp.{SetUp}
+use Rattle.numbers.specs.Limits.{mostTasks, mostResources, mostPairs}
+use Rattle.input.specs.declared.Setup.{Setup}
 
 -- l's places below n, of `most`; the others 0
 unfoldable pub below : ℕ → ℕ → List ℕ → List ℕ
 below n most l = table (λ i. if ltb i n then getD l i 0 else 0) most
 
-unfoldable pub cleared : SetUp → SetUp
+unfoldable pub cleared : Setup → Setup
 cleared c = record {
   processors = c .processors;
   tasks = c .tasks;
@@ -32,7 +32,7 @@ unfoldable pub emptyFrom : ℕ → ℕ → List ℕ → Bool
 emptyFrom n most l = allBelow most (λ i. leb n i implies getD l i 0 is 0)
 
 -- everything past the counts is 0
-unfoldable pub isClear : SetUp → Bool
+unfoldable pub isClear : Setup → Bool
 isClear c =
     emptyFrom (c .tasks) mostTasks (c .periods) && emptyFrom (c .resources) mostResources (c .kinds)
     && emptyFrom (c .pairs) mostPairs (c .outer) && emptyFrom (c .pairs) mostPairs (c .inner)

@@ -2,10 +2,10 @@
 use Prim.Native.Nat.{ℕ, _<_, _≤_}
 use mathlib.Core.Path.{_≡_}
 use Rattle.input.specs.Words.{kind, outerOf, innerOf}
-use Rattle.input.specs.declared.SetUp.{SetUp}
+use Rattle.input.specs.declared.Setup.{Setup}
 
 -- a pair of equal kinds, one of the first n, has a outside and b inside
-pub record Joins (c : SetUp) (n a b : ℕ) : Type 0 where
+pub record Joins (c : Setup) (n a b : ℕ) : Type 0 where
   pub pair : ℕ
   pub counts : pair < c .pairs
   pub below : pair < n
@@ -14,12 +14,12 @@ pub record Joins (c : SetUp) (n a b : ℕ) : Type 0 where
   pub alike : kind c a ≡ kind c b
 
 -- and so on through chains of pairs
-pub data Chained (c : SetUp) (n : ℕ) : ℕ → ℕ → Type 0 where
+pub data Chained (c : Setup) (n : ℕ) : ℕ → ℕ → Type 0 where
   alone : {a : ℕ} → Chained c n a a
   inward : {a b d : ℕ} → Joins c n a b → Chained c n b d → Chained c n a d
   outward : {a b d : ℕ} → Joins c n b a → Chained c n b d → Chained c n a d
 
 -- a group is named by its lowest resource
-pub record IsName (c : SetUp) (r name : ℕ) : Type 0 where
+pub record IsName (c : Setup) (r name : ℕ) : Type 0 where
   pub member : Chained c (c .pairs) r name
   pub lowest : (q : ℕ) → Chained c (c .pairs) r q → name ≤ q

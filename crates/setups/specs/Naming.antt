@@ -6,9 +6,9 @@ use lib.Dec.{ltb}
 use lib.ListN.{getD}
 use Rattle.search.specs.Words.{if_then_else_, _is_}
 use Rattle.search.specs.Table.{table}
-use Rattle.input.specs.Limits.{mostResources, mostPairs, nothing}
+use Rattle.numbers.specs.Limits.{mostResources, mostPairs, nothing}
 use Rattle.input.specs.Words.{kind, outerOf, innerOf}
-use Rattle.input.specs.declared.SetUp.{SetUp}
+use Rattle.input.specs.declared.Setup.{Setup}
 
 -- of two names the higher gives way to the lower
 abbrev pub merged : ℕ → ℕ → ℕ → ℕ
@@ -17,7 +17,7 @@ merged a b name = if name is max a b then min a b else name
 abbrev pub joined : List ℕ → ℕ → ℕ → List ℕ
 joined names a b = map (merged (getD names a nothing) (getD names b nothing)) names
 
-module _ (c : SetUp) where
+module _ (c : Setup) where
   -- a and b are in the table, and of equal kinds
   abbrev pub areAlike : ℕ → ℕ → Bool
   areAlike a b = ltb a (c .resources) && ltb b (c .resources) && kind c a is kind c b

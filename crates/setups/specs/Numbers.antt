@@ -2,14 +2,15 @@
 -- 0 when none does.
 use mathlib.Core.Path.{_≡_}
 use mathlib.Core.Logic.{_↔_}
-use Rattle.search.specs.Numbered.{FirstAt, NoneApplies}
-use Rattle.setups.specs.Refusals.{setUpRows, setUpRefusal}
-use Rattle.input.specs.declared.SetUp.{SetUp}
+use Rattle.numbers.specs.Refusals.{countOutside, periodZero, kindUnknown, pairStray, longInShort}
+use Rattle.numbers.specs.Numbered.{FirstAt, NoneApplies}
+use Rattle.setups.specs.Refusals.{setupRows, setupRefusal}
+use Rattle.input.specs.declared.Setup.{Setup}
 
-pub record SetUpNumbers (c : SetUp) : Type 0 where
-  pub accepted : (setUpRefusal c ≡ 0) ↔ NoneApplies (setUpRows c)
-  pub count-outside : (setUpRefusal c ≡ 1) ↔ FirstAt (setUpRows c) 0
-  pub period-zero : (setUpRefusal c ≡ 2) ↔ FirstAt (setUpRows c) 1
-  pub kind-unknown : (setUpRefusal c ≡ 3) ↔ FirstAt (setUpRows c) 2
-  pub pair-stray : (setUpRefusal c ≡ 4) ↔ FirstAt (setUpRows c) 3
-  pub long-in-short : (setUpRefusal c ≡ 5) ↔ FirstAt (setUpRows c) 4
+pub record SetupNumbers (c : Setup) : Type 0 where
+  pub accepted : (setupRefusal c ≡ 0) ↔ NoneApplies (setupRows c)
+  pub count-outside : (setupRefusal c ≡ countOutside) ↔ FirstAt (setupRows c) 0
+  pub period-zero : (setupRefusal c ≡ periodZero) ↔ FirstAt (setupRows c) 1
+  pub kind-unknown : (setupRefusal c ≡ kindUnknown) ↔ FirstAt (setupRows c) 2
+  pub pair-stray : (setupRefusal c ≡ pairStray) ↔ FirstAt (setupRows c) 3
+  pub long-in-short : (setupRefusal c ≡ longInShort) ↔ FirstAt (setupRows c) 4

@@ -1,10 +1,10 @@
--- The lengths of a set-up's tables, which are known of every `SetUp` of the code.
+-- The lengths of a set-up's tables, which are known of every `Setup` of the code.
 use mathlib.Core.Path.{_≡_}
 use lib.ListN.{length}
-use Rattle.input.specs.Limits.{mostTasks, mostResources, mostPairs}
-use Rattle.input.specs.declared.SetUp.{SetUp}
+use Rattle.numbers.specs.Limits.{mostTasks, mostResources, mostPairs}
+use Rattle.input.specs.declared.Setup.{Setup}
 
-pub record Sized (c : SetUp) : Type 0 where
+pub record Sized (c : Setup) : Type 0 where
   pub periods : length (c .periods) ≡ mostTasks
   pub kinds : length (c .kinds) ≡ mostResources
   pub outer : length (c .outer) ≡ mostPairs

@@ -1,5 +1,5 @@
 // A set-up with everything past its counts cleared. Its tables differ in length, so they are lent as slices.
-use input::SetUp;
+use input::Setup;
 ghost use mathlib.Core.Path.{_≡_};
 ghost use lib.ListN.{length};
 ghost use Rattle.setups.specs.Clearing.{below, cleared, emptyFrom, isClear};
@@ -21,7 +21,7 @@ fn clear_periods_from(periods: &mut [u16], count: usize)
     }
 }
 
-pub fn clear(setup: SetUp) -> SetUp
+pub fn clear(setup: Setup) -> Setup
     ensures { λ r. ⌜ r ≡ cleared setup ⌝ }
 {
     let mut periods = setup.periods;
@@ -32,7 +32,7 @@ pub fn clear(setup: SetUp) -> SetUp
     clear_from(&mut kinds, setup.resources);
     clear_from(&mut outer, setup.pairs);
     clear_from(&mut inner, setup.pairs);
-    SetUp {
+    Setup {
         processors: setup.processors,
         tasks: setup.tasks,
         resources: setup.resources,
@@ -67,7 +67,7 @@ fn has_no_period_from(periods: &[u16], count: usize) -> bool
 }
 
 // Everything past the counts is 0.
-pub fn is_clear(setup: SetUp) -> bool
+pub fn is_clear(setup: Setup) -> bool
     ensures { λ r. ⌜ r ≡ isClear setup ⌝ }
 {
     has_no_period_from(&setup.periods, setup.tasks)

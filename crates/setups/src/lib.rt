@@ -5,5 +5,6 @@ mod judging;
 
 pub use clearing::clear;
 pub use clearing::is_clear;
+pub use grouping::named_at;
 pub use grouping::names_of;
-pub use judging::judge;
+pub use judging::judge_setup;

@@ -4,7 +4,7 @@ use mathlib.Core.List.{List}
 use lib.ListN.{length, length-map}
 use mir.Val.{Val}
 use denote.Shadow.{shadow}
-use Rattle.input.specs.Limits.{mostTasks, mostResources}
+use Rattle.numbers.specs.Limits.{mostTasks, mostResources}
 use Rattle.protocol.proofs.State as state-type
 use Rattle.protocol.specs.declared.State.{State}
 

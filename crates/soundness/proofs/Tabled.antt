@@ -7,8 +7,9 @@ use native.Mathlib.Decide.{decLt}
 use lib.ListN.{length, getD, List·getD-eq-default}
 use Rattle.search.specs.Table.{table}
 use Rattle.search.proofs.Tables.{table-at, table-past}
-use Rattle.input.specs.Limits.{mostTasks, mostResources}
-use Rattle.protocol.specs.Words.{nobody, absent, standingNo, askedOf, noTask, noGroup, stand, asked, holder}
+use Rattle.numbers.specs.Limits.{mostTasks, mostResources, nobody}
+use Rattle.protocol.specs.Words.{absent, standingNo, askedOf, stand, asked, holder}
+use Rattle.protocol.specs.Records.{noTask, noGroup}
 use Rattle.protocol.specs.declared.Task.{Task}
 use Rattle.protocol.specs.declared.Group.{Group}
 use Rattle.protocol.specs.declared.State.{State}

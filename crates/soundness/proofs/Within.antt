@@ -11,16 +11,17 @@ use Rattle.search.proofs.Tests.{tests, and-iff, and-left, allBelow-at}
 use Rattle.queue.specs.Limits.{capacity}
 use Rattle.queue.specs.Waiting.{isTidy}
 use Rattle.queue.specs.declared.Queue.{Queue}
-use Rattle.input.specs.Limits.{mostTasks}
+use Rattle.numbers.specs.Limits.{mostTasks, mostRequests}
 use Rattle.input.specs.Words.{period}
-use Rattle.setups.specs.Refusals.{setUpRefusal}
+use Rattle.setups.specs.Refusals.{setupRefusal}
 use Rattle.setups.proofs.Accepted.{accepted-iff}
-use Rattle.protocol.specs.Words.{mostRequests, noTask, task, stand, deadline, depth}
+use Rattle.protocol.specs.Records.{noTask}
+use Rattle.protocol.specs.Words.{task, stand, deadline, depth}
 use Rattle.protocol.specs.Sound.{clockSound, timesSound, requestsSound}
 use Rattle.protocol.specs.declared.Task.{Task}
 use Rattle.protocol.specs.declared.State.{State}
-use Rattle.views.specs.Bounds.{latest, isBounded}
-use Rattle.views.proofs.Telling.{jobs-ruled}
+use Rattle.priorities.specs.Bounds.{latest, isBounded}
+use Rattle.priorities.proofs.Telling.{jobs-ruled}
 use Rattle.soundness.specs.Parts.{frameSound, ViewIsRuled}
 
 pub tidy-len : (q : Queue) → isTidy q ≡ true → q .len ≤ capacity
@@ -58,7 +59,7 @@ module _ (s : State) where
   unfolding isBounded
   within p f =
       let frame = simp and-iff at f in
-      let accepted = accepted-iff (s .setup) .0 (eqb-true (setUpRefusal (s .setup)) 0 (frame .0 .0 .0)) in
+      let accepted = accepted-iff (s .setup) .0 (eqb-true (setupRefusal (s .setup)) 0 (frame .0 .0 .0)) in
       let dates = allBelow-at mostTasks (timesSound (s .setup) s) (frame .1) in
       simp tests (accepted .resources, λ t h. dated-within (frame .0 .1) t (p t) (dates t h))
 

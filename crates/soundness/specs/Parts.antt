@@ -5,19 +5,19 @@ use mathlib.Core.Bool.{Bool, true, _&&_}
 use lib.ListN.{length}
 use Rattle.search.specs.Words.{_is_}
 use Rattle.search.specs.Below.{allBelow}
-use Rattle.placement.specs.PlacedTest.{isPlaced}
-use Rattle.input.specs.Limits.{mostTasks, mostResources}
+use Rattle.scheduler.specs.PlacedTest.{isPlaced}
+use Rattle.numbers.specs.Limits.{mostTasks, mostResources}
 use Rattle.input.specs.Words.{period}
-use Rattle.setups.specs.Refusals.{setUpRefusal}
+use Rattle.setups.specs.Refusals.{setupRefusal}
 use Rattle.setups.specs.Clearing.{isClear}
 use Rattle.protocol.specs.Ranks.{jobs}
 use Rattle.protocol.specs.Sound.{clockSound, timesSound, requestsSound, waitingSound, groupSound}
 use Rattle.protocol.specs.declared.State.{State}
-use Rattle.views.specs.Bounds.{jobsIn}
+use Rattle.priorities.specs.Bounds.{jobsIn}
 
 -- the set-up, the clock and the times
 abbrev pub frameSound : State → Bool
-frameSound s = setUpRefusal (s .setup) is 0 && isClear (s .setup) && clockSound (s .setup) s && allBelow mostTasks (timesSound (s .setup) s)
+frameSound s = setupRefusal (s .setup) is 0 && isClear (s .setup) && clockSound (s .setup) s && allBelow mostTasks (timesSound (s .setup) s)
 
 -- where they hold, the view that the code tells is the rule's, whatever the depths and queues; known from the types: how
 -- long the table of tasks is, and that a period has two bytes

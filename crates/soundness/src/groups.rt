@@ -1,7 +1,8 @@
 // Each group's holder and queue.
 use crate::standings::asked_of;
 use crate::standings::stand_at;
-use input::SetUp;
+use input::Setup;
+use numbers::Limit;
 use protocol::Group;
 use protocol::State;
 use protocol::Task;
@@ -15,46 +16,45 @@ ghost use Rattle.search.specs.Words.{_is_};
 ghost use Rattle.search.specs.Below.{allBelow, anyBelow};
 ghost use Rattle.queue.specs.Limits.{capacity};
 ghost use Rattle.queue.specs.Waiting.{waiter, placeOf};
-ghost use Rattle.input.specs.Limits.{mostTasks, mostResources};
+ghost use Rattle.numbers.specs.Limits.{mostTasks, mostResources, mostRequests, nothing};
 ghost use Rattle.setups.specs.Naming.{names};
-ghost use Rattle.protocol.specs.Words.{mostRequests, nobody, absent, spinning, stand};
-ghost use Rattle.protocol.specs.Words.{task as taskRecord, group as groupRecord, asked as askedBy};
+ghost use Rattle.protocol.specs.Words.{absent, spinning, stand, task as taskRecord, group as groupRecord, asked as askedBy};
 ghost use Rattle.protocol.specs.Sound.{requestsSound, groupSound};
 
 // Some open request is in group `g`.
 fn some_in(
-    groups: [u8; SetUp::RESOURCES],
+    groups: [u8; Setup::RESOURCES],
     requests: [u8; Task::REQUESTS],
     depth: usize,
     g: u8,
 ) -> bool
     requires { ⌜ depth ≤ mostRequests ⌝ }
-    ensures { λ r. ⌜ r ≡ anyBelow depth (λ i. getD groups (getD requests i nobody) nobody is g) ⌝ }
+    ensures { λ r. ⌜ r ≡ anyBelow depth (λ i. getD groups (getD requests i nothing) nothing is g) ⌝ }
 {
     let mut some = false;
     for i in 0..depth {
-        some = some | (tables::number_at(groups, tables::request_at(requests, i)) == g);
+        some = some | (setups::named_at(groups, states::request_at(requests, i)) == g);
     }
     some
 }
 
 // All that wait in the queue wait, and for what is in group `g`.
 fn all_wait_here(
-    stands: [u8; SetUp::TASKS],
-    asked: [u8; SetUp::TASKS],
-    groups: [u8; SetUp::RESOURCES],
+    stands: [u8; Setup::TASKS],
+    asked: [u8; Setup::TASKS],
+    groups: [u8; Setup::RESOURCES],
     queue: Queue,
     g: u8,
 ) -> bool
     requires { ⌜ queue .len ≤ capacity ⌝ }
-    ensures { λ r. ⌜ r ≡ allBelow (queue .len) (λ i. leb spinning (getD stands (waiter queue i) absent) && getD groups (getD asked (waiter queue i) nobody) nobody is g) ⌝ }
+    ensures { λ r. ⌜ r ≡ allBelow (queue .len) (λ i. leb spinning (getD stands (waiter queue i) absent) && getD groups (getD asked (waiter queue i) nothing) nothing is g) ⌝ }
 {
     let mut ok = true;
     for i in 0..queue.len {
         let t = queue.waiter(i);
         ok = ok
             & ((Task::SPINNING <= stand_at(stands, t))
-                & (tables::number_at(groups, tables::number_at(asked, t)) == g));
+                & (setups::named_at(groups, states::number_at(asked, t)) == g));
     }
     ok
 }
@@ -75,46 +75,46 @@ fn all_in_place(queue: Queue) -> bool
 fn group_holds(
     group: Group,
     task: Task,
-    named: [u8; SetUp::RESOURCES],
-    stands: [u8; SetUp::TASKS],
-    asked: [u8; SetUp::TASKS],
+    naming: [u8; Setup::RESOURCES],
+    stands: [u8; Setup::TASKS],
+    asked: [u8; Setup::TASKS],
     g: u8,
 ) -> bool
     requires { ⌜ task .depth ≤ mostRequests ⌝ }
     ensures { λ r. ⌜ ((s : State) → group ≡ groupRecord s g → task ≡ taskRecord s (group .holder)
-        → named ≡ names (s .setup) → ((t : ℕ) → getD stands t absent ≡ stand s t)
-        → ((t : ℕ) → getD asked t nobody ≡ askedBy s t) → r ≡ groupSound (s .setup) s g) ⌝ }
+        → naming ≡ names (s .setup) → ((t : ℕ) → getD stands t absent ≡ stand s t)
+        → ((t : ℕ) → getD asked t nothing ≡ askedBy s t) → r ≡ groupSound (s .setup) s g) ⌝ }
 {
     let holder = group.holder;
     let queue = group.queue;
     let requests = task.requests;
     if queue.is_tidy() {
-        let held = (holder == Task::NOTHING) | some_in(named, requests, task.depth, g);
-        let waits = all_wait_here(stands, asked, named, queue, g);
+        let held = (holder == Limit::NOBODY) | some_in(naming, requests, task.depth, g);
+        let waits = all_wait_here(stands, asked, naming, queue, g);
         let placed = all_in_place(queue);
-        held & waits & placed & ((holder != Task::NOTHING) | (queue.len == 0))
+        held & waits & placed & ((holder != Limit::NOBODY) | (queue.len == 0))
     } else {
         false
     }
 }
 
-pub fn all_groups(state: State, named: [u8; SetUp::RESOURCES]) -> bool
-    requires { ⌜ (named ≡ names (state .setup)) × (allBelow mostTasks (requestsSound (state .setup) state) ≡ true) ⌝ }
+pub fn all_groups(state: State, naming: [u8; Setup::RESOURCES]) -> bool
+    requires { ⌜ (naming ≡ names (state .setup)) × (allBelow mostTasks (requestsSound (state .setup) state) ≡ true) ⌝ }
     ensures { λ r. ⌜ r ≡ allBelow mostResources (groupSound (state .setup) state) ⌝ }
 {
     let tasks = state.tasks;
     let stands = states::stands_of(tasks);
     let asked = asked_of(tasks);
     let mut ok = true;
-    for g in 0..SetUp::RESOURCES {
+    for g in 0..Setup::RESOURCES {
         let group = state.groups[g];
         let h = group.holder as usize;
-        let task = if h < SetUp::TASKS {
+        let task = if h < Setup::TASKS {
             tasks[h]
         } else {
-            tables::no_task()
+            states::no_task()
         };
-        ok = ok & group_holds(group, task, named, stands, asked, g as u8);
+        ok = ok & group_holds(group, task, naming, stands, asked, g as u8);
     }
     ok
 }

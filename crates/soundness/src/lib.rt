@@ -1,5 +1,5 @@
 // The sound state, clause by clause, as a test of any content.
-use input::SetUp;
+use input::Setup;
 
 mod groups;
 mod requests;
@@ -13,5 +13,5 @@ pub use testing::test;
 // Whether a state passes the test, and the names of its groups.
 pub struct Tested {
     pub passes: bool,
-    pub named: [u8; SetUp::RESOURCES],
+    pub naming: [u8; Setup::RESOURCES],
 }

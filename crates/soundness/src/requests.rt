@@ -1,5 +1,5 @@
 // Each job's open requests, and what a waiting job asked for.
-use input::SetUp;
+use input::Setup;
 use protocol::State;
 use protocol::Task;
 use queue::Queue;
@@ -11,31 +11,31 @@ ghost use lib.ListN.{getD};
 ghost use Rattle.search.specs.Words.{_is_, _implies_};
 ghost use Rattle.search.specs.Below.{allBelow};
 ghost use Rattle.search.specs.Table.{table};
-ghost use Rattle.input.specs.Limits.{mostTasks, mostResources};
+ghost use Rattle.numbers.specs.Limits.{mostTasks, mostResources, mostRequests, nobody, nothing};
 ghost use Rattle.setups.specs.Naming.{names, groupOf};
-ghost use Rattle.protocol.specs.Words.{mostRequests, nobody, spinning, noGroup, group, holder};
-ghost use Rattle.protocol.specs.Words.{task as taskRecord, stand as standOf, asked as askedBy};
+ghost use Rattle.protocol.specs.Words.{spinning, group, holder, task as taskRecord, stand as standOf, asked as askedBy};
+ghost use Rattle.protocol.specs.Records.{noGroup};
 ghost use Rattle.protocol.specs.Sound.{requestsSound, waitingSound};
 ghost use Rattle.soundness.specs.Opens.{isOnce, isLong, isTogether};
 
 // Each open request is in the table, and `t` holds its group.
 fn all_held(
-    holders: [u8; SetUp::RESOURCES],
-    groups: [u8; SetUp::RESOURCES],
+    holders: [u8; Setup::RESOURCES],
+    groups: [u8; Setup::RESOURCES],
     requests: [u8; Task::REQUESTS],
     depth: usize,
     resources: usize,
     t: u8,
 ) -> bool
     requires { ⌜ depth ≤ mostRequests ⌝ }
-    ensures { λ r. ⌜ r ≡ allBelow depth (λ i. ltb (getD requests i nobody) resources && getD holders (getD groups (getD requests i nobody) nobody) nobody is t) ⌝ }
+    ensures { λ r. ⌜ r ≡ allBelow depth (λ i. ltb (getD requests i nothing) resources && getD holders (getD groups (getD requests i nothing) nothing) nobody is t) ⌝ }
 {
     let mut ok = true;
     for i in 0..depth {
-        let r = tables::request_at(requests, i);
+        let r = states::request_at(requests, i);
         ok = ok
             & (((r as usize) < resources)
-                & (tables::number_at(holders, tables::number_at(groups, r)) == t));
+                & (setups::named_at(holders, setups::named_at(groups, r)) == t));
     }
     ok
 }
@@ -45,10 +45,10 @@ fn is_once(requests: [u8; Task::REQUESTS], depth: usize, i: usize) -> bool
     requires { ⌜ depth ≤ mostRequests ⌝ }
     ensures { λ r. ⌜ r ≡ isOnce requests depth i ⌝ }
 {
-    let r = tables::request_at(requests, i);
+    let r = states::request_at(requests, i);
     let mut ok = true;
     for k in 0..depth {
-        ok = ok & ((r != tables::request_at(requests, k)) | (i == k));
+        ok = ok & ((r != states::request_at(requests, k)) | (i == k));
     }
     ok
 }
@@ -65,19 +65,19 @@ fn all_once(requests: [u8; Task::REQUESTS], depth: usize) -> bool
 }
 
 // The requests before place `i` are long.
-fn longs_before(kinds: [u8; SetUp::RESOURCES], requests: [u8; Task::REQUESTS], i: usize) -> bool
+fn longs_before(kinds: [u8; Setup::RESOURCES], requests: [u8; Task::REQUESTS], i: usize) -> bool
     requires { ⌜ i ≤ mostRequests ⌝ }
     ensures { λ r. ⌜ r ≡ allBelow i (isLong kinds requests) ⌝ }
 {
     let mut ok = true;
     for k in 0..i {
-        ok = ok & (tables::kind_at(kinds, tables::request_at(requests, k)) == SetUp::LONG);
+        ok = ok & (states::kind_at(kinds, states::request_at(requests, k)) == Setup::LONG);
     }
     ok
 }
 
 fn all_longs_first(
-    kinds: [u8; SetUp::RESOURCES],
+    kinds: [u8; Setup::RESOURCES],
     requests: [u8; Task::REQUESTS],
     depth: usize,
 ) -> bool
@@ -86,7 +86,7 @@ fn all_longs_first(
 {
     let mut ok = true;
     for i in 0..depth {
-        let is_long = tables::kind_at(kinds, tables::request_at(requests, i)) == SetUp::LONG;
+        let is_long = states::kind_at(kinds, states::request_at(requests, i)) == Setup::LONG;
         ok = ok & (!is_long | longs_before(kinds, requests, i));
     }
     ok
@@ -94,8 +94,8 @@ fn all_longs_first(
 
 // The requests of the kind of the one at place `i` are in its group.
 fn is_together(
-    kinds: [u8; SetUp::RESOURCES],
-    groups: [u8; SetUp::RESOURCES],
+    kinds: [u8; Setup::RESOURCES],
+    groups: [u8; Setup::RESOURCES],
     requests: [u8; Task::REQUESTS],
     depth: usize,
     i: usize,
@@ -103,20 +103,20 @@ fn is_together(
     requires { ⌜ depth ≤ mostRequests ⌝ }
     ensures { λ r. ⌜ r ≡ isTogether kinds groups requests depth i ⌝ }
 {
-    let a = tables::request_at(requests, i);
+    let a = states::request_at(requests, i);
     let mut ok = true;
     for k in 0..depth {
-        let b = tables::request_at(requests, k);
+        let b = states::request_at(requests, k);
         ok = ok
-            & ((tables::kind_at(kinds, a) != tables::kind_at(kinds, b))
-                | (tables::number_at(groups, a) == tables::number_at(groups, b)));
+            & ((states::kind_at(kinds, a) != states::kind_at(kinds, b))
+                | (setups::named_at(groups, a) == setups::named_at(groups, b)));
     }
     ok
 }
 
 fn all_together(
-    kinds: [u8; SetUp::RESOURCES],
-    groups: [u8; SetUp::RESOURCES],
+    kinds: [u8; Setup::RESOURCES],
+    groups: [u8; Setup::RESOURCES],
     requests: [u8; Task::REQUESTS],
     depth: usize,
 ) -> bool
@@ -133,10 +133,10 @@ fn all_together(
 // Task `t` by its record, the kinds and the number of the resources, the names of their groups and who holds each.
 fn requests_hold(
     task: Task,
-    kinds: [u8; SetUp::RESOURCES],
+    kinds: [u8; Setup::RESOURCES],
     resources: usize,
-    groups: [u8; SetUp::RESOURCES],
-    holders: [u8; SetUp::RESOURCES],
+    groups: [u8; Setup::RESOURCES],
+    holders: [u8; Setup::RESOURCES],
     t: u8,
 ) -> bool
     ensures { λ r. ⌜ ((s : State) → task ≡ taskRecord s t → kinds ≡ s .setup .kinds → resources ≡ s .setup .resources
@@ -163,8 +163,8 @@ fn requests_hold(
 
 pub fn all_requests(
     state: State,
-    groups: [u8; SetUp::RESOURCES],
-    holders: [u8; SetUp::RESOURCES],
+    groups: [u8; Setup::RESOURCES],
+    holders: [u8; Setup::RESOURCES],
 ) -> bool
     requires { ⌜ (groups ≡ names (state .setup)) × (holders ≡ table (λ g. getD (state .groups) g noGroup .holder) mostResources) ⌝ }
     ensures { λ r. ⌜ r ≡ allBelow mostTasks (requestsSound (state .setup) state) ⌝ }
@@ -172,7 +172,7 @@ pub fn all_requests(
     let setup = state.setup;
     let kinds = setup.kinds;
     let mut ok = true;
-    for t in 0..SetUp::TASKS {
+    for t in 0..Setup::TASKS {
         let task = state.tasks[t];
         ok = ok & requests_hold(task, kinds, setup.resources, groups, holders, t as u8);
     }
@@ -186,7 +186,7 @@ fn waiting_holds(
     stand: u8,
     asked: u8,
     queue: Queue,
-    kinds: [u8; SetUp::RESOURCES],
+    kinds: [u8; Setup::RESOURCES],
     resources: usize,
     t: u8,
 ) -> bool
@@ -194,33 +194,33 @@ fn waiting_holds(
         → queue ≡ group s (groupOf (s .setup) asked) .queue → kinds ≡ s .setup .kinds → resources ≡ s .setup .resources
         → (leb spinning stand implies r) ≡ waitingSound (s .setup) s t) ⌝ }
 {
-    let kind = tables::kind_at(kinds, asked);
+    let kind = states::kind_at(kinds, asked);
     let requests = task.requests;
     let depth = task.depth;
     let right = ((asked as usize) < resources)
         & ((stand as usize) == (Task::SPINNING as usize) + (kind as usize));
     let stands = queue.place_of(t) < Queue::CAPACITY;
-    let apart = !tables::has_kind(kinds, requests, depth, kind);
+    let apart = !states::has_kind(kinds, requests, depth, kind);
     right & stands & apart & ((stand != Task::SUSPENDED) | (depth == 0)) & (depth < Task::REQUESTS)
 }
 
-pub fn all_waiting(state: State, groups: [u8; SetUp::RESOURCES]) -> bool
+pub fn all_waiting(state: State, groups: [u8; Setup::RESOURCES]) -> bool
     requires { ⌜ groups ≡ names (state .setup) ⌝ }
     ensures { λ r. ⌜ r ≡ allBelow mostTasks (waitingSound (state .setup) state) ⌝ }
 {
     let setup = state.setup;
     let kinds = setup.kinds;
     let mut ok = true;
-    for t in 0..SetUp::TASKS {
+    for t in 0..Setup::TASKS {
         let task = state.tasks[t];
         let standing = task.standing;
         let stand = states::stand_of(standing);
         let asked = states::asked_of(standing);
-        let g = tables::number_at(groups, asked) as usize;
-        let group = if g < SetUp::RESOURCES {
+        let g = setups::named_at(groups, asked) as usize;
+        let group = if g < Setup::RESOURCES {
             state.groups[g]
         } else {
-            tables::no_group()
+            states::no_group()
         };
         let queue = group.queue;
         ok = ok

@@ -1,5 +1,6 @@
 // Times, totals and empty places of each task.
-use input::SetUp;
+use input::Setup;
+use numbers::Limit;
 use protocol::State;
 use protocol::Task;
 ghost use mathlib.Core.Path.{_≡_};
@@ -8,16 +9,19 @@ ghost use lib.Dec.{leb};
 ghost use lib.ListN.{getD};
 ghost use Rattle.search.specs.Words.{_is_, _implies_};
 ghost use Rattle.search.specs.Below.{allBelow};
-ghost use Rattle.input.specs.Limits.{mostTasks};
-ghost use Rattle.input.specs.Words.{period as periodOf};
-ghost use Rattle.protocol.specs.Words.{mostRequests, nobody, sum, task as taskRecord};
+ghost use Rattle.numbers.specs.Limits.{mostTasks, mostRequests, nothing};
+ghost use Rattle.input.specs.Words.{dueAt};
+ghost use Rattle.protocol.specs.Words.{sum, task as taskRecord};
 ghost use Rattle.protocol.specs.Sound.{timesSound, emptySound};
 
 fn sum_of(totals: [u32; Task::TOTALS]) -> u64
     ensures { λ r. ⌜ r ≡ sum totals ⌝ }
 {
-    let early = (totals[0] as u64) + (totals[1] as u64);
-    early + (totals[2] as u64) + (totals[3] as u64) + (totals[4] as u64)
+    let mut all: u64 = 0;
+    for i in 0..Task::TOTALS {
+        all = all + (totals[i] as u64);
+    }
+    all
 }
 
 fn elapsed(start: u32, clock: u32) -> u64
@@ -30,15 +34,14 @@ fn elapsed(start: u32, clock: u32) -> u64
     }
 }
 
-// A task by its record and its period, in any state with this start and this clock.
-fn times_hold(task: Task, period: u16, start: u32, clock: u32) -> bool
-    ensures { λ r. ⌜ ((s : State) (t : ℕ) → task ≡ taskRecord s t → period ≡ periodOf (s .setup) t
+// A task by its record and the deadline that its last arrival gives, in any state with this start and this clock.
+fn times_hold(task: Task, due: u64, start: u32, clock: u32) -> bool
+    ensures { λ r. ⌜ ((s : State) (t : ℕ) → task ≡ taskRecord s t → due ≡ dueAt (s .setup) t (task .last)
         → start ≡ s .setup .start → clock ≡ s .clock → r ≡ timesSound (s .setup) s t) ⌝ }
 {
     let standing = task.standing;
     let totals = task.totals;
     let stand = states::stand_of(standing);
-    let due = (task.last as u64) + (period as u64);
     let between = !task.arrived | ((start <= task.last) & (task.last <= clock));
     let dated = (stand == Task::ABSENT) | (task.arrived & (task.deadline == due));
     let undated = (stand != Task::ABSENT) | (task.deadline == 0);
@@ -50,20 +53,21 @@ pub fn all_times(state: State) -> bool
 {
     let setup = state.setup;
     let mut ok = true;
-    for t in 0..SetUp::TASKS {
+    for t in 0..Setup::TASKS {
         let task = state.tasks[t];
-        ok = ok & times_hold(task, setup.periods[t], setup.start, state.clock);
+        let due = states::due_at(setup, t as u8, task.last);
+        ok = ok & times_hold(task, due, setup.start, state.clock);
     }
     ok
 }
 
-// From `depth` on no request stands.
+// From `depth` on there is no request.
 fn requests_end(requests: [u8; Task::REQUESTS], depth: usize) -> bool
-    ensures { λ r. ⌜ r ≡ allBelow mostRequests (λ i. leb depth i implies getD requests i nobody is nobody) ⌝ }
+    ensures { λ r. ⌜ r ≡ allBelow mostRequests (λ i. leb depth i implies getD requests i nothing is nothing) ⌝ }
 {
     let mut ok = true;
     for i in 0..Task::REQUESTS {
-        ok = ok & (!(depth <= i) | (tables::request_at(requests, i) == Task::NOTHING));
+        ok = ok & (!(depth <= i) | (states::request_at(requests, i) == Limit::NOTHING));
     }
     ok
 }
@@ -76,9 +80,9 @@ fn empty_holds(task: Task, past: bool) -> bool
     let standing = task.standing;
     let requests = task.requests;
     let totals = task.totals;
-    let idle = (states::stand_of(standing) == Task::ABSENT) & !task.arrived;
-    let blank = idle & (task.last == 0) & (sum_of(totals) == 0);
-    requests_end(requests, task.depth) & (!past | blank)
+    let never = (states::stand_of(standing) == Task::ABSENT) & !task.arrived;
+    let unused = never & (task.last == 0) & (sum_of(totals) == 0);
+    requests_end(requests, task.depth) & (!past | unused)
 }
 
 pub fn all_empty(state: State) -> bool
@@ -86,7 +90,7 @@ pub fn all_empty(state: State) -> bool
 {
     let setup = state.setup;
     let mut ok = true;
-    for t in 0..SetUp::TASKS {
+    for t in 0..Setup::TASKS {
         let task = state.tasks[t];
         ok = ok & empty_holds(task, setup.tasks <= t);
     }

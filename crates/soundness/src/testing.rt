@@ -5,7 +5,7 @@ use crate::requests::all_requests;
 use crate::requests::all_waiting;
 use crate::tasks::all_empty;
 use crate::tasks::all_times;
-use input::SetUp;
+use input::Setup;
 use protocol::State;
 ghost use mathlib.Core.Path.{_≡_};
 ghost use mathlib.Core.Bool.{true};
@@ -18,21 +18,21 @@ fn frame_holds(state: State) -> bool
     ensures { λ r. ⌜ r ≡ frameSound state ⌝ }
 {
     let setup = state.setup;
-    (setups::judge(setup) == 0)
+    (setups::judge_setup(setup) == 0)
         & setups::is_clear(setup)
         & (setup.start <= state.clock)
         & all_times(state)
 }
 
-// The open requests, the waiting jobs and the groups, which are `named`.
-fn locks_hold(state: State, named: [u8; SetUp::RESOURCES]) -> bool
-    requires { ⌜ named ≡ names (state .setup) ⌝ }
+// The open requests, the waiting jobs and the groups, which are `naming`.
+fn locks_hold(state: State, naming: [u8; Setup::RESOURCES]) -> bool
+    requires { ⌜ naming ≡ names (state .setup) ⌝ }
     ensures { λ r. ⌜ r ≡ locksSound state ⌝ }
 {
     let groups = state.groups;
-    let holders = tables::holders_of(groups);
-    if all_requests(state, named, holders) {
-        all_waiting(state, named) & all_groups(state, named)
+    let holders = states::holders_of(groups);
+    if all_requests(state, naming, holders) {
+        all_waiting(state, naming) & all_groups(state, naming)
     } else {
         false
     }
@@ -49,17 +49,17 @@ fn placement_holds(state: State) -> bool
     let kinds = setup.kinds;
     let tasks = state.tasks;
     let groups = state.groups;
-    let jobs = views::jobs_of(kinds, setup.resources, tasks, groups);
+    let jobs = priorities::jobs_of(kinds, setup.resources, tasks, groups);
     (p.count == setup.processors) & placement::is_placed(p, jobs)
 }
 
-// Every clause; the groups are `named`.
-fn all_hold(state: State, named: [u8; SetUp::RESOURCES]) -> bool
-    requires { ⌜ named ≡ names (state .setup) ⌝ }
+// Every clause; the groups are `naming`.
+fn all_hold(state: State, naming: [u8; Setup::RESOURCES]) -> bool
+    requires { ⌜ naming ≡ names (state .setup) ⌝ }
     ensures { λ r. ⌜ r ≡ sound state ⌝ }
 {
     if frame_holds(state) {
-        if locks_hold(state, named) {
+        if locks_hold(state, naming) {
             placement_holds(state) & all_empty(state)
         } else {
             false
@@ -71,13 +71,13 @@ fn all_hold(state: State, named: [u8; SetUp::RESOURCES]) -> bool
 
 // The test, and the names that it was made with.
 pub fn test(state: State) -> Tested
-    ensures { λ r. ⌜ r ≡ record { passes = sound state; named = names (state .setup) } ⌝ }
+    ensures { λ r. ⌜ r ≡ record { passes = sound state; naming = names (state .setup) } ⌝ }
 {
     let setup = state.setup;
-    let named = setups::names_of(setup);
+    let naming = setups::names_of(setup);
     Tested {
-        passes: all_hold(state, named),
-        named,
+        passes: all_hold(state, naming),
+        naming,
     }
 }
 

@@ -7,10 +7,10 @@ use native.Mathlib.Numerals.{add-one}
 use native.Mathlib.Omega.{arith}
 use lib.ListN.{length, getD, set, take, replicate, length-set, length-append}
 use lib.Seq.{take-suc, length-take-le}
-use Rattle.processors.specs.Limits.{processors}
+use Rattle.numbers.specs.Limits.{mostProcessors}
 use Rattle.processors.specs.Words.{link, runs}
 use Rattle.processors.specs.declared.Processors.{Processors}
-use Rattle.states.specs.Writing.{places, lineOf, written}
+use Rattle.states.specs.Writing.{places, snapshotOf, written}
 
 -- ---- a text written into a buffer
 pub written-long : (bytes : List ℕ) (at : ℕ) (text : List ℕ) → length (written bytes at text) ≡ length bytes
@@ -49,18 +49,18 @@ set-two (z ∷ xs) rest a b x y = ap (λ l. z ∷ l) (set-two xs rest a b x y)
 
 -- the line after the first k processors: what stands behind them is still the answer
 abbrev pub lineTo : ℕ → Processors → ℕ → List ℕ
-lineTo answer p k = (answer ∷ places p k) ++ replicate (2 * (processors - k)) answer
+lineTo answer p k = (answer ∷ places p k) ++ replicate (2 * (mostProcessors - k)) answer
 
-pub line-turn : (answer : ℕ) (p : Processors) (k : ℕ) → k < processors
+pub line-turn : (answer : ℕ) (p : Processors) (k : ℕ) → k < mostProcessors
     → set (set (lineTo answer p k) (2 * k + 1) (link p k)) (2 * k + 2) (runs p k) ≡ lineTo answer p (k + 1)
 unfolding places
 line-turn answer p k h =
     let n = places-long p k in
     let e : 2 * k + 1 ≡ length (answer ∷ places p k) = omega (arith, n) in
     let f : 2 * k + 2 ≡ suc (length (answer ∷ places p k)) = omega (arith, n) in
-    let left : 2 * (processors - k) ≡ suc (suc (2 * (processors - suc k))) = omega arith in
-    rw (add-one k, e, f, left) (set-two (answer ∷ places p k) (replicate (2 * (processors - suc k)) answer) answer answer (link p k) (runs p k))
+    let left : 2 * (mostProcessors - k) ≡ suc (suc (2 * (mostProcessors - suc k))) = omega arith in
+    rw (add-one k, e, f, left) (set-two (answer ∷ places p k) (replicate (2 * (mostProcessors - suc k)) answer) answer answer (link p k) (runs p k))
 
-pub line-whole : (answer : ℕ) (p : Processors) → lineTo answer p processors ≡ lineOf answer p
-unfolding lineOf
-line-whole answer p = append-nil (answer ∷ places p processors)
+pub line-whole : (answer : ℕ) (p : Processors) → lineTo answer p mostProcessors ≡ snapshotOf answer p
+unfolding snapshotOf
+line-whole answer p = append-nil (answer ∷ places p mostProcessors)

@@ -1,22 +1,22 @@
--- What is written of an event into a lent buffer: its answer, the links and the placements.
-use Prim.Native.Nat.{ℕ, zero, suc}
+-- The snapshot that is written of an event into a lent buffer: its answer, the links and the placements.
+use Prim.Native.Nat.{ℕ, zero, suc, _+_, _*_}
 use mathlib.Core.List.{List, [], _∷_, _++_}
 use lib.ListN.{set}
-use Rattle.processors.specs.Limits.{processors}
+use Rattle.numbers.specs.Limits.{mostProcessors}
 use Rattle.processors.specs.Words.{link, runs}
 use Rattle.processors.specs.declared.Processors.{Processors}
 
--- how many bytes are written of an event: its answer, and per processor the linked and the running task
-abbrev pub lineSize : ℕ
-lineSize = 17
+-- its bytes: the answer, and per processor the linked and the running task
+abbrev pub snapshotSize : ℕ
+snapshotSize = 1 + 2 * mostProcessors
 
 -- the linked and the running task of the first k processors
 unfoldable pub places : Processors → ℕ → List ℕ
 places p zero = []
 places p (suc k) = places p k ++ (link p k ∷ runs p k ∷ [])
 
-unfoldable pub lineOf : ℕ → Processors → List ℕ
-lineOf answer p = answer ∷ places p processors
+unfoldable pub snapshotOf : ℕ → Processors → List ℕ
+snapshotOf answer p = answer ∷ places p mostProcessors
 
 -- the buffer with a text written from a place on
 unfoldable pub written : List ℕ → ℕ → List ℕ → List ℕ

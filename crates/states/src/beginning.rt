@@ -1,21 +1,23 @@
 // What a set-up gives.
-use input::SetUp;
+use crate::records::no_group;
+use crate::records::no_task;
+use input::Setup;
 use protocol::Group;
 use protocol::Reply;
 use protocol::State;
 use protocol::Task;
 ghost use mathlib.Core.Path.{_≡_};
 ghost use Rattle.protocol.specs.Events.{fresh as freshState, begin as beginRule};
-ghost use Rattle.input.specs.Words.{noSetUp};
+ghost use Rattle.input.specs.Words.{noSetup};
 
 // Nobody has arrived.
-fn fresh(setup: SetUp) -> State
+fn fresh(setup: Setup) -> State
     ensures { λ r. ⌜ r ≡ freshState setup ⌝ }
 {
-    let task = tables::no_task();
-    let group = tables::no_group();
-    let tasks: [Task; SetUp::TASKS] = [task; SetUp::TASKS];
-    let groups: [Group; SetUp::RESOURCES] = [group; SetUp::RESOURCES];
+    let task = no_task();
+    let group = no_group();
+    let tasks: [Task; Setup::TASKS] = [task; Setup::TASKS];
+    let groups: [Group; Setup::RESOURCES] = [group; Setup::RESOURCES];
     let processors = processors::none_linked(setup.processors);
     State {
         setup,
@@ -28,16 +30,16 @@ fn fresh(setup: SetUp) -> State
 
 // The empty state: no processors.
 pub fn empty() -> State
-    ensures { λ r. ⌜ r ≡ freshState noSetUp ⌝ }
+    ensures { λ r. ⌜ r ≡ freshState noSetup ⌝ }
 {
-    fresh(SetUp::none())
+    fresh(Setup::none())
 }
 
 // The state that a set-up gives; a refused one gives an empty state.
-pub fn begin(setup: SetUp) -> Reply
+pub fn begin(setup: Setup) -> Reply
     ensures { λ r. ⌜ r ≡ beginRule setup ⌝ }
 {
-    let answer = setups::judge(setup);
+    let answer = setups::judge_setup(setup);
     if answer == 0 {
         let state = fresh(setups::clear(setup));
         Reply { answer, state }

@@ -1,5 +1,6 @@
 // What a standing says, and the situation of a task.
-use input::SetUp;
+use input::Setup;
+use numbers::Limit;
 use processors::Processors;
 use protocol::Lock;
 use protocol::Situation;
@@ -8,8 +9,9 @@ use protocol::Task;
 ghost use mathlib.Core.Path.{_≡_};
 ghost use lib.ListN.{getD};
 ghost use Rattle.search.specs.Table.{table};
-ghost use Rattle.input.specs.Limits.{mostTasks};
-ghost use Rattle.protocol.specs.Words.{standingNo, askedOf, noTask};
+ghost use Rattle.numbers.specs.Limits.{mostTasks};
+ghost use Rattle.protocol.specs.Words.{standingNo, askedOf};
+ghost use Rattle.protocol.specs.Records.{noTask};
 ghost use Rattle.protocol.specs.Situations.{situationOf};
 
 pub fn stand_of(standing: Standing) -> u8
@@ -26,11 +28,11 @@ pub fn stand_of(standing: Standing) -> u8
 }
 
 // The numbers of the tasks' standings.
-pub fn stands_of(tasks: [Task; SetUp::TASKS]) -> [u8; SetUp::TASKS]
+pub fn stands_of(tasks: [Task; Setup::TASKS]) -> [u8; Setup::TASKS]
     ensures { λ r. ⌜ r ≡ table (λ t. standingNo (getD tasks t noTask .standing)) mostTasks ⌝ }
 {
-    let mut stands = [0u8; SetUp::TASKS];
-    for t in 0..SetUp::TASKS {
+    let mut stands = [0u8; Setup::TASKS];
+    for t in 0..Setup::TASKS {
         let task = tasks[t];
         let standing = task.standing;
         stands[t] = stand_of(standing);
@@ -43,8 +45,8 @@ pub fn asked_of(standing: Standing) -> u8
     ensures { λ r. ⌜ r ≡ askedOf standing ⌝ }
 {
     match standing {
-        Standing::Absent => Processors::NOBODY,
-        Standing::Active => Processors::NOBODY,
+        Standing::Absent => Limit::NOTHING,
+        Standing::Active => Limit::NOTHING,
         Standing::Waiting(lock) => match lock {
             Lock::Short(resource) => resource,
             Lock::Long(resource) => resource,

@@ -13,8 +13,8 @@ use Rattle.queue.specs.Waiting.{waiting, waiter as queued, empty, appended, mov
 use Rattle.processors.specs.Words.{rankOf, modeOf, linkOf, runOf, noneLinked}
 use Rattle.scheduler.specs.Arriving.{lowestFree, lowestLinked, displacing, arrivingOn, taken, arriving as linking}
 use Rattle.scheduler.specs.Leaving.{becomingPreemptable, nextTask, filling, refilling, leavingFrom, leaving, givingWay}
-use Rattle.placement.specs.PlacedTest.{linkHolds, runHolds, processorHolds, linksHigher, taskHolds, isPlaced}
-use Rattle.setups.specs.Refusals.{setUpRows, setUpRefusal}
+use Rattle.scheduler.specs.PlacedTest.{isPlaced}
+use Rattle.setups.specs.Refusals.{setupRows, setupRefusal}
 use Rattle.setups.specs.Naming.{joinedBy, namesAfter, names, groupOf}
 use Rattle.setups.specs.Clearing.{below, cleared, emptyFrom, isClear}
 use Rattle.input.specs.Kinds.{fieldsOf}
@@ -23,20 +23,20 @@ use Rattle.protocol.specs.Ranks.{own, leastOf, longHeld, effective, shortOpen, 
 use Rattle.protocol.specs.Situations.{situation}
 use Rattle.protocol.specs.Sound.{clockSound, timesSound, requestsSound, waitingSound, groupSound, emptySound, sound}
 use Rattle.protocol.specs.Refusals.{misplaced, eventRows, judge}
-use Rattle.protocol.specs.Locks.{openOfKind, opens, queues, closes, frees, calls, passes}
-use Rattle.protocol.specs.Events.{arrives, leaves, softens, givesWay, arriveEvent, finishEvent, requestEvent, completeEvent, charged, act, stepBy, step, fresh, begin, runBy, run}
-use Rattle.input.specs.Layout.{startIn, periodsIn, kindsIn, sideIn, setUpIn, eventIn, eventCount}
+use Rattle.protocol.specs.Locks.{openOfKind, opens, enqueues, closes, frees, dequeues, passes}
+use Rattle.protocol.specs.Events.{arrives, leaves, becomesPreemptable, givesWay, arriveEvent, finishEvent, requestEvent, completeEvent, charged, act, stepBy, step, fresh, begin, runBy, run}
+use Rattle.input.specs.Layout.{startIn, periodsIn, kindsIn, sideIn, setupIn, eventIn, eventCount}
 use Rattle.blocks.specs.Check.{sums, isChecked}
-use Rattle.blocks.specs.Verdicts.{isBlank, isSetUpFilled, isEventFilled, blockRows, verdict}
+use Rattle.blocks.specs.Verdicts.{isBlank, isSetupFilled, isEventFilled, blockRows, verdict}
 use Rattle.search.specs.Texts.{codes, digits, eachText}
-use Rattle.texts.specs.Lines.{firstText, taskText, taskLineText, blockText, setUpText}
-use Rattle.blocks.specs.Files.{blocksOf, refusalOf, eventsFrom, firstBlock, setUpOf}
-use Rattle.stepping.specs.Files.{answerText, endText, fileText}
-use Rattle.stepping.specs.Program.{Accepted}
+use Rattle.lines.specs.Texts.{firstText, taskText, taskLineText, blockText, setupText}
+use Rattle.blocks.specs.Files.{blocksOf, refusalOf, eventsFrom, firstBlock, setupOf}
+use Rattle.pages.specs.Files.{answerText, endText, fileText}
+use Rattle.pages.specs.Program.{Accepted}
 
 -- the number, the kind, the count; two processors, three tasks, one resource, no pair; the start, and the periods
-abbrev setUpBytes : List ℕ
-setUpBytes = 0 ∷ 0 ∷ 1 ∷ 1 ∷ 2 ∷ 3 ∷ 1 ∷ 0 ∷ 250 ∷ 255 ∷ 0 ∷ 0 ∷ 100 ∷ 0 ∷ 200 ∷ 0 ∷ 50 ∷ 0 ∷ []
+abbrev setupBytes : List ℕ
+setupBytes = 0 ∷ 0 ∷ 1 ∷ 1 ∷ 2 ∷ 3 ∷ 1 ∷ 0 ∷ 250 ∷ 255 ∷ 0 ∷ 0 ∷ 100 ∷ 0 ∷ 200 ∷ 0 ∷ 50 ∷ 0 ∷ []
 
 -- the number, the kind, the count, and eight events of six bytes
 abbrev eventBytes : List ℕ
@@ -54,7 +54,7 @@ eventBytes =
 
 abbrev pub printedBytes : List ℕ
 printedBytes =
-    setUpBytes ++ replicate 490 0 ++ (93 ∷ 5 ∷ 247 ∷ 65 ∷ [])
+    setupBytes ++ replicate 490 0 ++ (93 ∷ 5 ∷ 247 ∷ 65 ∷ [])
     ++ eventBytes ++ replicate 456 0 ++ (48 ∷ 16 ∷ 241 ∷ 141 ∷ [])
 
 pub printed-case : fileText (blocksOf printedBytes)
@@ -70,18 +70,18 @@ pub printed-case : fileText (blocksOf printedBytes)
     ++ codes "task 0 13 5 0 0 0\n"
     ++ codes "task 1 13 0 0 3 0\n"
     ++ codes "task 2 3 0 7 0 0\n"
-unfolding allBelow anyBelow first best better table waiting queued empty appended movedUp withoutFirst placeOf tidyAt isTidy rankOf modeOf linkOf runOf noneLinked lowestFree lowestLinked displacing arrivingOn taken linking becomingPreemptable nextTask filling refilling leavingFrom leaving givingWay linkHolds runHolds processorHolds linksHigher taskHolds isPlaced setUpRows setUpRefusal joinedBy namesAfter names groupOf below cleared emptyFrom isClear fieldsOf stand asked deadline depth request holder len waiter own leastOf longHeld effective shortOpen jobs situation clockSound timesSound requestsSound waitingSound groupSound emptySound sound misplaced eventRows judge openOfKind opens queues closes frees calls passes arrives leaves softens givesWay arriveEvent finishEvent requestEvent completeEvent charged act stepBy step fresh begin startIn periodsIn kindsIn sideIn setUpIn eventIn eventCount runBy run sums isChecked isBlank isSetUpFilled isEventFilled blockRows verdict digits eachText firstText taskText taskLineText blockText setUpText blocksOf eventsFrom answerText endText fileText
+unfolding allBelow anyBelow first best better table waiting queued empty appended movedUp withoutFirst placeOf tidyAt isTidy rankOf modeOf linkOf runOf noneLinked lowestFree lowestLinked displacing arrivingOn taken linking becomingPreemptable nextTask filling refilling leavingFrom leaving givingWay isPlaced setupRows setupRefusal joinedBy namesAfter names groupOf below cleared emptyFrom isClear fieldsOf stand asked deadline depth request holder len waiter own leastOf longHeld effective shortOpen jobs situation clockSound timesSound requestsSound waitingSound groupSound emptySound sound misplaced eventRows judge openOfKind opens enqueues closes frees dequeues passes arrives leaves becomesPreemptable givesWay arriveEvent finishEvent requestEvent completeEvent charged act stepBy step fresh begin startIn periodsIn kindsIn sideIn setupIn eventIn eventCount runBy run sums isChecked isBlank isSetupFilled isEventFilled blockRows verdict digits eachText firstText taskText taskLineText blockText setupText blocksOf eventsFrom answerText endText fileText
 printed-case = refl
 
 -- its two blocks and its set-up are accepted, so the theorem of accepted files speaks of it
 pub record Computed : Type 0 where
   pub two : length (blocksOf printedBytes) ≡ 2
   pub opens : refusalOf (firstBlock (blocksOf printedBytes)) 0 ≡ 0
-  pub setup : setUpRefusal (setUpOf (blocksOf printedBytes)) ≡ 0
+  pub setup : setupRefusal (setupOf (blocksOf printedBytes)) ≡ 0
   pub second : refusalOf (getD (blocksOf printedBytes) 1 []) 1 ≡ 0
 
 pub computed : Computed
-unfolding allBelow anyBelow first best better table waiting queued empty appended movedUp withoutFirst placeOf tidyAt isTidy rankOf modeOf linkOf runOf noneLinked lowestFree lowestLinked displacing arrivingOn taken linking becomingPreemptable nextTask filling refilling leavingFrom leaving givingWay linkHolds runHolds processorHolds linksHigher taskHolds isPlaced setUpRows setUpRefusal joinedBy namesAfter names groupOf below cleared emptyFrom isClear fieldsOf stand asked deadline depth request holder len waiter own leastOf longHeld effective shortOpen jobs situation clockSound timesSound requestsSound waitingSound groupSound emptySound sound misplaced eventRows judge openOfKind opens queues closes frees calls passes arrives leaves softens givesWay arriveEvent finishEvent requestEvent completeEvent charged act stepBy step fresh begin startIn periodsIn kindsIn sideIn setUpIn eventIn eventCount runBy run sums isChecked isBlank isSetUpFilled isEventFilled blockRows verdict digits eachText firstText taskText taskLineText blockText setUpText blocksOf eventsFrom answerText endText fileText
+unfolding allBelow anyBelow first best better table waiting queued empty appended movedUp withoutFirst placeOf tidyAt isTidy rankOf modeOf linkOf runOf noneLinked lowestFree lowestLinked displacing arrivingOn taken linking becomingPreemptable nextTask filling refilling leavingFrom leaving givingWay isPlaced setupRows setupRefusal joinedBy namesAfter names groupOf below cleared emptyFrom isClear fieldsOf stand asked deadline depth request holder len waiter own leastOf longHeld effective shortOpen jobs situation clockSound timesSound requestsSound waitingSound groupSound emptySound sound misplaced eventRows judge openOfKind opens enqueues closes frees dequeues passes arrives leaves becomesPreemptable givesWay arriveEvent finishEvent requestEvent completeEvent charged act stepBy step fresh begin startIn periodsIn kindsIn sideIn setupIn eventIn eventCount runBy run sums isChecked isBlank isSetupFilled isEventFilled blockRows verdict digits eachText firstText taskText taskLineText blockText setupText blocksOf eventsFrom answerText endText fileText
 computed = record { two = refl; opens = refl; setup = refl; second = refl }
 
 follows : (i : ℕ) → i < length (blocksOf printedBytes) → refusalOf (getD (blocksOf printedBytes) i []) i ≡ 0

@@ -36,13 +36,13 @@ fn read_block() -> [u8; Block::SIZE]
 }
 
 fn begin_from(block: &[u8]) -> State {
-    let part = blocks::used_part(block, blocks::judge(block, 0));
-    states::begin(input::set_up_from(part)).state
+    let part = blocks::used_part(block, blocks::judge_block(block, 0));
+    states::begin(input::setup_from(part)).state
 }
 
 fn play_block(state: State, block: &[u8], index: u64) -> State {
-    let mut out = [0u8; Block::MOST_EVENTS as usize * Reply::LINE];
-    let part = blocks::used_part(block, blocks::judge(block, index));
+    let mut out = [0u8; Block::MOST_EVENTS as usize * Reply::SNAPSHOT];
+    let part = blocks::used_part(block, blocks::judge_block(block, index));
     locking::play(state, part, &mut out).state
 }
 
@@ -109,7 +109,7 @@ fn make_checks(given: [u8; Block::SIZE], index: u64, calls: u64) -> u64 {
         } else {
             !given[Block::SIZE - 1]
         };
-        let number = blocks::number_of(blocks::judge(&block, index));
+        let number = blocks::number_of(blocks::judge_block(&block, index));
         accepted = count_if(number == 0, accepted);
     }
     accepted
@@ -119,7 +119,7 @@ fn make_checks(given: [u8; Block::SIZE], index: u64, calls: u64) -> u64 {
 fn follow(what: u8, state: State, block: [u8; Block::SIZE], index: u64, calls: u64) -> u64 {
     match what {
         STEPS => {
-            let part = blocks::used_part(&block, blocks::judge(&block, index));
+            let part = blocks::used_part(&block, blocks::judge_block(&block, index));
             make_steps(state, part, calls)
         }
         TESTS => make_tests(state, calls),

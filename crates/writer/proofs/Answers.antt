@@ -9,18 +9,18 @@ use lib.Dec.{eqb, ltb}
 use lib.ListN.{length}
 use borrow.Author.Tests.{eqb-true, eq-eqb, ne-eqb}
 use Rattle.search.specs.Words.{if_then_else_, _is_}
-use Rattle.search.specs.Rows.{Row, firstOf}
-use Rattle.search.proofs.Refusals.{none-iff}
+use Rattle.numbers.specs.Rows.{Row, firstOf}
+use Rattle.numbers.proofs.Refusals.{none-iff}
 use Rattle.search.proofs.Tests.{tests}
 use Rattle.input.specs.Words.{within}
-use Rattle.input.specs.declared.SetUp.{SetUp}
+use Rattle.input.specs.declared.Setup.{Setup}
 use Rattle.setups.specs.Accepted.{Accepted}
 use Rattle.setups.specs.Clearing.{cleared}
-use Rattle.setups.specs.Refusals.{setUpRows, setUpRefusal}
+use Rattle.setups.specs.Refusals.{setupRows, setupRefusal}
 use Rattle.setups.proofs.Accepted.{accepted-iff}
 use Rattle.blocks.specs.Sizes.{blockSize, mostEvents, lastIndex}
 use Rattle.writer.specs.Written.{lentRows, writtenBy}
-use Rattle.writer.specs.SetUpBlocks.{Counted, blockOfSetUp, setUpWritten}
+use Rattle.writer.specs.SetupBlocks.{Counted, blockOfSetup, setupWritten}
 use Rattle.writer.specs.EventBlocks.{blockOfEvents, eventRows, eventsWritten}
 use Rattle.writer.specs.declared.Events.{Events}
 
@@ -51,24 +51,24 @@ pub written-kept : (rows : List Row) (block out : List ℕ) → firstOf rows ≢
 written-kept rows block out d = rw (ne-eqb (firstOf rows) 0 d)
 
 -- ---- a set-up, with the answer r
-module _ (c : SetUp) (out : List ℕ) (r : ℕ) (given : r ≡ firstOf (lentRows out (setUpRows c))) where
-  pub set-up-refused : r ≢ 0 → (r, out) ≡ setUpWritten c out
-  unfolding setUpWritten
-  set-up-refused d = written-refused (lentRows out (setUpRows c)) (blockOfSetUp c) out r given d
+module _ (c : Setup) (out : List ℕ) (r : ℕ) (given : r ≡ firstOf (lentRows out (setupRows c))) where
+  pub setup-refused : r ≢ 0 → (r, out) ≡ setupWritten c out
+  unfolding setupWritten
+  setup-refused d = written-refused (lentRows out (setupRows c)) (blockOfSetup c) out r given d
 
   module _ (e : r ≡ 0) where
-    pub set-up-done : (0, blockOfSetUp c) ≡ setUpWritten c out
-    unfolding setUpWritten
-    set-up-done = sym (written-zero (lentRows out (setUpRows c)) (blockOfSetUp c) out (sym given ∙ e))
+    pub setup-done : (0, blockOfSetup c) ≡ setupWritten c out
+    unfolding setupWritten
+    setup-done = sym (written-zero (lentRows out (setupRows c)) (blockOfSetup c) out (sym given ∙ e))
 
-    pub set-up-lent : length out ≡ blockSize
-    set-up-lent = lent-free out (setUpRows c) (sym given ∙ e) .0
+    pub setup-lent : length out ≡ blockSize
+    setup-lent = lent-free out (setupRows c) (sym given ∙ e) .0
 
     -- its counts are of one byte, cleared too
-    pub set-up-counted : Counted (cleared c)
-    unfolding cleared setUpRefusal
-    set-up-counted =
-        let a : Accepted c = accepted-iff c .0 (lent-free out (setUpRows c) (sym given ∙ e) .1) in
+    pub setup-counted : Counted (cleared c)
+    unfolding cleared setupRefusal
+    setup-counted =
+        let a : Accepted c = accepted-iff c .0 (lent-free out (setupRows c) (sym given ∙ e) .1) in
         record { processors = a .processors .1; tasks = a .tasks .1; resources = a .resources; pairs = a .pairs }
 
 -- events that nothing refuses

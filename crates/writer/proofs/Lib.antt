@@ -6,6 +6,6 @@ pub mod EventsSame
 pub mod Few
 pub mod Numbers
 pub mod Reading
-pub mod SetUpBack
-pub mod SetUpPlaces
-pub mod SetUpSame
+pub mod SetupBack
+pub mod SetupPlaces
+pub mod SetupSame

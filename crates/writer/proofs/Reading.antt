@@ -10,7 +10,7 @@ use lib.ListN.{length, getD}
 use lib.Seq.{getD-drop, getD-take}
 use Rattle.search.specs.Words.{_isn't_}
 use Rattle.search.proofs.Tests.{tests}
-use Rattle.search.specs.Numbered.{NoneApplies}
+use Rattle.numbers.specs.Numbered.{NoneApplies}
 use Rattle.input.specs.Layout.{byte, word, low, high}
 use Rattle.input.specs.Words.{within}
 use Rattle.blocks.specs.Sizes.{kindAt, payloadAt, blockSize, lastIndex, numbers}

@@ -5,7 +5,8 @@ use mathlib.Core.List.{List, []}
 use lib.Dec.{ltb}
 use lib.ListN.{getD}
 use Rattle.search.specs.Words.{if_then_else_, _is_}
-use Rattle.search.specs.Rows.{Row, _when_, _otherwise_}
+use Rattle.numbers.specs.Refusals.{numberWrong, recordCountWrong}
+use Rattle.numbers.specs.Rows.{Row, _when_, _otherwise_}
 use Rattle.search.specs.Table.{table}
 use Rattle.input.specs.Kinds.{noEvent}
 use Rattle.input.specs.Layout.{eventSize, eventBytes, eventIn, eventCount}
@@ -39,8 +40,8 @@ module _ (x : Events) where
 
     unfoldable pub eventRows : List Row
     eventRows =
-        34 when not (within 1 (x .count) mostEvents) otherwise
-        32 when (index is 0 || ltb lastIndex index) otherwise
+        recordCountWrong when not (within 1 (x .count) mostEvents) otherwise
+        numberWrong when (index is 0 || ltb lastIndex index) otherwise
         []
 
     -- the answer, and the output block behind it: 37, then 34, then 32

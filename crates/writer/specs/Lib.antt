@@ -2,5 +2,5 @@ pub mod EventBlocks
 pub mod Numbers
 pub mod RoundTrip
 pub mod Sealed
-pub mod SetUpBlocks
+pub mod SetupBlocks
 pub mod Written

@@ -4,27 +4,28 @@ use Prim.Native.Nat.{ℕ}
 use mathlib.Core.Path.{_≡_}
 use mathlib.Core.List.{List}
 use mathlib.Core.Logic.{_≢_, _↔_}
-use Rattle.search.specs.Numbered.{FirstAt, NoneApplies}
-use Rattle.input.specs.declared.SetUp.{SetUp}
-use Rattle.setups.specs.Refusals.{setUpRows}
+use Rattle.numbers.specs.Refusals.{countOutside, periodZero, kindUnknown, pairStray, longInShort, numberWrong, recordCountWrong, roomWrong}
+use Rattle.numbers.specs.Numbered.{FirstAt, NoneApplies}
+use Rattle.input.specs.declared.Setup.{Setup}
+use Rattle.setups.specs.Refusals.{setupRows}
 use Rattle.writer.specs.EventBlocks.{eventRows, eventsWritten}
-use Rattle.writer.specs.SetUpBlocks.{setUpWritten}
+use Rattle.writer.specs.SetupBlocks.{setupWritten}
 use Rattle.writer.specs.Written.{lentRows}
 use Rattle.writer.specs.declared.Events.{Events}
 
-pub record SetUpWriteNumbers (c : SetUp) (out : List ℕ) : Type 0 where
-  pub written : (setUpWritten c out .0 ≡ 0) ↔ NoneApplies (lentRows out (setUpRows c))
-  pub size-wrong : (setUpWritten c out .0 ≡ 37) ↔ FirstAt (lentRows out (setUpRows c)) 0
-  pub count-outside : (setUpWritten c out .0 ≡ 1) ↔ FirstAt (lentRows out (setUpRows c)) 1
-  pub period-zero : (setUpWritten c out .0 ≡ 2) ↔ FirstAt (lentRows out (setUpRows c)) 2
-  pub kind-unknown : (setUpWritten c out .0 ≡ 3) ↔ FirstAt (lentRows out (setUpRows c)) 3
-  pub pair-stray : (setUpWritten c out .0 ≡ 4) ↔ FirstAt (lentRows out (setUpRows c)) 4
-  pub long-in-short : (setUpWritten c out .0 ≡ 5) ↔ FirstAt (lentRows out (setUpRows c)) 5
-  pub kept : setUpWritten c out .0 ≢ 0 → setUpWritten c out .1 ≡ out
+pub record SetupWriteNumbers (c : Setup) (out : List ℕ) : Type 0 where
+  pub written : (setupWritten c out .0 ≡ 0) ↔ NoneApplies (lentRows out (setupRows c))
+  pub size-wrong : (setupWritten c out .0 ≡ roomWrong) ↔ FirstAt (lentRows out (setupRows c)) 0
+  pub count-outside : (setupWritten c out .0 ≡ countOutside) ↔ FirstAt (lentRows out (setupRows c)) 1
+  pub period-zero : (setupWritten c out .0 ≡ periodZero) ↔ FirstAt (lentRows out (setupRows c)) 2
+  pub kind-unknown : (setupWritten c out .0 ≡ kindUnknown) ↔ FirstAt (lentRows out (setupRows c)) 3
+  pub pair-stray : (setupWritten c out .0 ≡ pairStray) ↔ FirstAt (lentRows out (setupRows c)) 4
+  pub long-in-short : (setupWritten c out .0 ≡ longInShort) ↔ FirstAt (lentRows out (setupRows c)) 5
+  pub kept : setupWritten c out .0 ≢ 0 → setupWritten c out .1 ≡ out
 
 pub record EventsWriteNumbers (x : Events) (index : ℕ) (out : List ℕ) : Type 0 where
   pub written : (eventsWritten x index out .0 ≡ 0) ↔ NoneApplies (lentRows out (eventRows x index))
-  pub size-wrong : (eventsWritten x index out .0 ≡ 37) ↔ FirstAt (lentRows out (eventRows x index)) 0
-  pub count-wrong : (eventsWritten x index out .0 ≡ 34) ↔ FirstAt (lentRows out (eventRows x index)) 1
-  pub index-wrong : (eventsWritten x index out .0 ≡ 32) ↔ FirstAt (lentRows out (eventRows x index)) 2
+  pub size-wrong : (eventsWritten x index out .0 ≡ roomWrong) ↔ FirstAt (lentRows out (eventRows x index)) 0
+  pub count-wrong : (eventsWritten x index out .0 ≡ recordCountWrong) ↔ FirstAt (lentRows out (eventRows x index)) 1
+  pub index-wrong : (eventsWritten x index out .0 ≡ numberWrong) ↔ FirstAt (lentRows out (eventRows x index)) 2
   pub kept : eventsWritten x index out .0 ≢ 0 → eventsWritten x index out .1 ≡ out

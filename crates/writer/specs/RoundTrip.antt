@@ -5,44 +5,44 @@ use mathlib.Core.Path.{_≡_}
 use mathlib.Core.List.{List}
 use mathlib.Core.Logic.{_≢_}
 use lib.ListN.{length, getD}
-use Rattle.input.specs.Layout.{setUpSize, eventSize, setUpIn, eventIn}
-use Rattle.input.specs.declared.SetUp.{SetUp}
+use Rattle.input.specs.Layout.{setupSize, eventSize, setupIn, eventIn}
+use Rattle.input.specs.declared.Setup.{Setup}
 use Rattle.setups.specs.Clearing.{cleared}
-use Rattle.setups.specs.Refusals.{setUpRefusal}
+use Rattle.setups.specs.Refusals.{setupRefusal}
 use Rattle.blocks.specs.Sizes.{blockSize}
 use Rattle.blocks.specs.OneByte.{AreBytes}
 use Rattle.blocks.specs.Verdicts.{verdict, usedPart}
 use Rattle.blocks.specs.declared.Verdict.the-variants.{Used}
-use Rattle.writer.specs.SetUpBlocks.{setUpWritten}
+use Rattle.writer.specs.SetupBlocks.{setupWritten}
 use Rattle.input.specs.Kinds.{noEvent}
 use Rattle.writer.specs.EventBlocks.{kept, eventsWritten, eventsRead}
 use Rattle.writer.specs.declared.Events.{Events}
 
 -- ---- a set-up
 -- where the answer is 0, the reader accepts the block
-abbrev pub SetUpAccepted : Type 0
-SetUpAccepted =
-    (c : SetUp) (out : List ℕ)
-    → setUpWritten c out .0 ≡ 0
-    → verdict (setUpWritten c out .1) 0 ≡ Used setUpSize
+abbrev pub SetupAccepted : Type 0
+SetupAccepted =
+    (c : Setup) (out : List ℕ)
+    → setupWritten c out .0 ≡ 0
+    → verdict (setupWritten c out .1) 0 ≡ Used setupSize
 
 -- and what it reads is the set-up, places past the counts being 0
-abbrev pub SetUpBack : Type 0
-SetUpBack =
-    (c : SetUp) (out : List ℕ)
-    → setUpWritten c out .0 ≡ 0
-    → setUpIn (usedPart (setUpWritten c out .1) (verdict (setUpWritten c out .1) 0)) ≡ cleared c
+abbrev pub SetupBack : Type 0
+SetupBack =
+    (c : Setup) (out : List ℕ)
+    → setupWritten c out .0 ≡ 0
+    → setupIn (usedPart (setupWritten c out .1) (verdict (setupWritten c out .1) 0)) ≡ cleared c
 
 -- a block that the reader accepts, its set-up being free of 1 to 5, is written again to the byte
-abbrev pub SetUpSame : Type 0
-SetUpSame =
+abbrev pub SetupSame : Type 0
+SetupSame =
     (block : List ℕ) (n : ℕ)
     → AreBytes block
     → verdict block 0 ≡ Used n
-    → setUpRefusal (setUpIn (usedPart block (Used n))) ≡ 0
+    → setupRefusal (setupIn (usedPart block (Used n))) ≡ 0
     → (out : List ℕ)
     → length out ≡ blockSize
-    → setUpWritten (setUpIn (usedPart block (Used n))) out ≡ (0, block)
+    → setupWritten (setupIn (usedPart block (Used n))) out ≡ (0, block)
 
 -- ---- events, of whatever content
 abbrev pub EventsAccepted : Type 0

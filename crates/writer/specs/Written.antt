@@ -4,12 +4,13 @@ use Prim.Native.Nat.{ℕ}
 use mathlib.Core.List.{List}
 use lib.ListN.{length}
 use Rattle.search.specs.Words.{if_then_else_, _is_, _isn't_}
-use Rattle.search.specs.Rows.{Row, _when_, _otherwise_, firstOf}
+use Rattle.numbers.specs.Refusals.{roomWrong}
+use Rattle.numbers.specs.Rows.{Row, _when_, _otherwise_, firstOf}
 use Rattle.blocks.specs.Sizes.{blockSize}
 
 -- the output block's own refusal stands before all others
 abbrev pub lentRows : List ℕ → List Row → List Row
-lentRows out later = 37 when length out isn't blockSize otherwise later
+lentRows out later = roomWrong when length out isn't blockSize otherwise later
 
 abbrev pub writtenBy : List Row → List ℕ → List ℕ → ℕ × List ℕ
 writtenBy rows block out = (firstOf rows, if firstOf rows is 0 then block else out)

@@ -5,9 +5,10 @@ use crate::sealing::head_of;
 use crate::sealing::put_block;
 use blocks::Block;
 use input::Event;
+use numbers::Refusal;
 ghost use mathlib.Core.Path.{_≡_};
 ghost use Prim.Native.Nat.{_<_};
-ghost use Rattle.search.specs.Rows.{firstOf};
+ghost use Rattle.numbers.specs.Rows.{firstOf};
 ghost use Rattle.search.specs.Table.{table};
 ghost use Rattle.input.specs.Layout.{eventIn};
 ghost use Rattle.blocks.specs.Sizes.{payloadSize, mostEvents};
@@ -50,7 +51,11 @@ fn refusal_of(events: Events, index: u64) -> u8
 {
     let miscounted = !((1 <= events.count) & (events.count <= Events::MOST));
     let misplaced = (index == 0) | (Block::LAST_INDEX < index);
-    search::row(34, miscounted, search::row(32, misplaced, 0))
+    numbers::row(
+        Refusal::RECORD_COUNT_WRONG,
+        miscounted,
+        numbers::row(Refusal::NUMBER_WRONG, misplaced, 0),
+    )
 }
 
 // Writes the counted events into a lent block, as block `index` of a file. The answer is 0, or the first refusal that
@@ -58,7 +63,7 @@ fn refusal_of(events: Events, index: u64) -> u8
 pub fn write_events(events: Events, index: u64, out: &mut [u8]) -> u8
     ensures { λ r. ⌜ (r, now (out .exit)) ≡ eventsWritten events index (now (out .entry)) ⌝ }
 {
-    let refusal = search::row(37, out.len() != Block::SIZE, refusal_of(events, index));
+    let refusal = numbers::row(Refusal::ROOM_WRONG, out.len() != Block::SIZE, refusal_of(events, index));
     if refusal != 0 {
         return refusal;
     }

@@ -1,13 +1,13 @@
 // The writer of the studio's block files: a set-up or up to 84 events into a lent block, which the reader takes back.
 mod event_blocks;
 mod sealing;
-mod set_up_blocks;
+mod setup_blocks;
 
 use blocks::Block;
 pub use event_blocks::events_from;
 pub use event_blocks::write_events;
 use input::Event;
-pub use set_up_blocks::write_set_up;
+pub use setup_blocks::write_setup;
 
 // The events of one block. Places past the count are not read.
 pub struct Events {

@@ -2,7 +2,7 @@
 use mathlib.Core.Path.{sym}
 use lib.ListN.{List·getD-eq-default}
 use borrow.Author.Needs.{needs}
-use Rattle.queue.specs.Limits.{nobody}
+use Rattle.numbers.specs.Limits.{nobody}
 use Rattle.search.proofs.Tables.{getD-any}
 use Rattle.queue.proofs.held.Statement.{statement}
 use Rattle.queue.proofs.held.Tie as tie

@@ -7,7 +7,8 @@ use native.Mathlib.Omega.{arith}
 use lib.ListN.{length, take, drop, replicate, length-drop}
 use lib.Seq.{take-all}
 use borrow.Author.Needs.{needs}
-use Rattle.queue.specs.Limits.{capacity, nobody}
+use Rattle.queue.specs.Limits.{capacity}
+use Rattle.numbers.specs.Limits.{nobody}
 use Rattle.queue.specs.Waiting.{movedUp}
 use Rattle.queue.proofs.Lists.{move-turn}
 use Rattle.queue.proofs.moved_up.Statement.{statement}

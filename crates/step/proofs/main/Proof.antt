@@ -2,7 +2,7 @@ use mathlib.Core.Path.{_≡_}
 use Prim.Native.Nat.{_*_}
 use lib.ListN.{length}
 use Rattle.blocks.specs.Sizes.{blockSize, mostEvents}
-use Rattle.texts.specs.Buffers.{lineLimit}
+use Rattle.lines.specs.Buffers.{lineLimit}
 use borrow.Author.Needs.{needs}
 use Rattle.step.proofs.main.Statement.{statement}
 use Rattle.step.proofs.main.Tie as tie

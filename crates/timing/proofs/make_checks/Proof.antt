@@ -7,10 +7,10 @@ use Rattle.timing.proofs.make_checks.Statement.{statement}
 use Rattle.timing.proofs.make_checks.Tie as tie
 
 abbrev Inv-loop : tie.InvT-loop
-Inv-loop index calls given block₀ accepted₀ i₀ block accepted i = (length block ≡ blockSize) × (i ≤ calls)
+Inv-loop index dequeues given block₀ accepted₀ i₀ block accepted i = (length block ≡ blockSize) × (i ≤ dequeues)
 
 abbrev μ-loop : tie.MeasureT-loop
-μ-loop index calls given block₀ accepted₀ i₀ block accepted i = calls - i
+μ-loop index dequeues given block₀ accepted₀ i₀ block accepted i = dequeues - i
 
 loop-holds : tie.Need-loop-holds Inv-loop μ-loop
 loop-holds c = search needs
@@ -33,11 +33,11 @@ sub-block-3 c = search needs
 array-write-block : tie.Need-array-write-block Inv-loop μ-loop
 array-write-block c = search needs
 
-slice-aggregate-judge : tie.Need-slice-aggregate-judge Inv-loop μ-loop
-slice-aggregate-judge c = search needs
+slice-aggregate-judge-block : tie.Need-slice-aggregate-judge-block Inv-loop μ-loop
+slice-aggregate-judge-block c = search needs
 
-judge-requires : tie.Need-judge-requires Inv-loop μ-loop
-judge-requires c κs = search needs
+judge-block-requires : tie.Need-judge-block-requires Inv-loop μ-loop
+judge-block-requires c κs = search needs
 
 number-of-requires : tie.Need-number-of-requires Inv-loop μ-loop
 number-of-requires c κs = search needs
@@ -70,8 +70,8 @@ make-checks-spec =
     array-read-block-2
     sub-block-3
     array-write-block
-    slice-aggregate-judge
-    judge-requires
+    slice-aggregate-judge-block
+    judge-block-requires
     number-of-requires
     count-if-requires
     add-i

@@ -3,8 +3,8 @@ use borrow.Author.Needs.{needs}
 use Rattle.blocks.proofs.judging.is_filled.Statement.{statement}
 use Rattle.blocks.proofs.judging.is_filled.Tie as tie
 
-is-set-up-filled-requires : tie.Need-is-set-up-filled-requires
-is-set-up-filled-requires c κs = search needs
+is-setup-filled-requires : tie.Need-is-setup-filled-requires
+is-setup-filled-requires c κs = search needs
 
 is-event-filled-requires : tie.Need-is-event-filled-requires
 is-event-filled-requires c κs = search needs
@@ -17,4 +17,4 @@ returns-2 c = cc
 
 pub is-filled-spec : {M : Type 1} → statement M
 is-filled-spec =
-    tie.close (tie.spec is-set-up-filled-requires is-event-filled-requires returns returns-2)
+    tie.close (tie.spec is-setup-filled-requires is-event-filled-requires returns returns-2)

@@ -2,7 +2,7 @@ use borrow.Author.Needs.{needs}
 use Prim.Native.Nat.{_≤_, _-_}
 use mathlib.Core.Logic.{⊎-elim}
 use native.Mathlib.Omega.{arith}
-use Rattle.input.specs.Limits.{mostTasks}
+use Rattle.numbers.specs.Limits.{mostTasks}
 use Rattle.edges.proofs.answers.told_jobs.Statement.{statement}
 use Rattle.edges.proofs.answers.told_jobs.Tie as tie
 

@@ -1,6 +1,6 @@
 use borrow.Author.Needs.{needs}
 use Prim.Native.Nat.{_≤_, _-_}
-use Rattle.input.specs.Limits.{mostResources}
+use Rattle.numbers.specs.Limits.{mostResources}
 use Rattle.edges.proofs.comparing.same_groups.Statement.{statement}
 use Rattle.edges.proofs.comparing.same_groups.Tie as tie
 

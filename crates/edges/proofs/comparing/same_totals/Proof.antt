@@ -1,6 +1,6 @@
 use borrow.Author.Needs.{needs}
 use Prim.Native.Nat.{_≤_, _-_}
-use Rattle.protocol.specs.Words.{totalCount}
+use Rattle.protocol.specs.Records.{totalCount}
 use Rattle.edges.proofs.comparing.same_totals.Statement.{statement}
 use Rattle.edges.proofs.comparing.same_totals.Tie as tie
 

@@ -7,7 +7,7 @@ use lib.ListN.{drop, replicate}
 use borrow.Author.Needs.{needs}
 use Rattle.search.specs.Table.{table}
 use Rattle.search.proofs.Tables.{table-none, table-turn, table-all}
-use Rattle.input.specs.Limits.{mostResources}
+use Rattle.numbers.specs.Limits.{mostResources}
 use Rattle.input.specs.Layout.{byte, kindsAt, kindsIn}
 use Rattle.input.proofs.reading.kinds_in.Statement.{statement}
 use Rattle.input.proofs.reading.kinds_in.Tie as tie

@@ -7,7 +7,7 @@ use lib.ListN.{drop, replicate}
 use borrow.Author.Needs.{needs}
 use Rattle.search.specs.Table.{table}
 use Rattle.search.proofs.Tables.{table-none, table-turn, table-all}
-use Rattle.input.specs.Limits.{mostTasks}
+use Rattle.numbers.specs.Limits.{mostTasks}
 use Rattle.input.specs.Layout.{word, periodsAt, periodsIn}
 use Rattle.input.proofs.reading.periods_in.Statement.{statement}
 use Rattle.input.proofs.reading.periods_in.Tie as tie

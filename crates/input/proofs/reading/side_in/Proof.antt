@@ -7,7 +7,7 @@ use lib.ListN.{drop, replicate}
 use borrow.Author.Needs.{needs}
 use Rattle.search.specs.Table.{table}
 use Rattle.search.proofs.Tables.{table-none, table-turn, table-all}
-use Rattle.input.specs.Limits.{mostPairs}
+use Rattle.numbers.specs.Limits.{mostPairs}
 use Rattle.input.specs.Layout.{byte, pairsAt, sideIn}
 use Rattle.input.proofs.reading.side_in.Statement.{statement}
 use Rattle.input.proofs.reading.side_in.Tie as tie

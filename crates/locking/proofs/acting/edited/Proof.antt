@@ -4,9 +4,6 @@ use Rattle.locking.specs.Edits.{editing}
 use Rattle.locking.proofs.acting.edited.Statement.{statement}
 use Rattle.locking.proofs.acting.edited.Tie as tie
 
-add-due : tie.Need-add-due
-add-due c = search needs
-
 arrived-requires : tie.Need-arrived-requires
 arrived-requires c κs = search needs
 
@@ -54,7 +51,6 @@ pub edited-spec : {M : Type 1} → statement M
 edited-spec =
     tie.close
     (tie.spec
-    add-due
     arrived-requires
     departed-requires
     request-requires

@@ -8,7 +8,7 @@ use lib.ListN.{getD, length}
 use Rattle.search.specs.Table.{table}
 use Rattle.search.proofs.Tables.{table-at}
 use Rattle.processors.specs.declared.Processors.{Processors}
-use Rattle.input.specs.Limits.{mostTasks}
+use Rattle.numbers.specs.Limits.{mostTasks}
 use Rattle.locking.specs.Totals.{placeBy, chargedTo, CanChargeTask}
 use Rattle.locking.proofs.Places.{place-low}
 use Rattle.locking.proofs.Totals.{charge-can, charge-turn, charged-length}

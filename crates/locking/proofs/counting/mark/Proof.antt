@@ -4,16 +4,16 @@ use mathlib.Core.Path.{_≡_, sym, _∙_}
 use mathlib.Core.Logic.{⊎-elim}
 use native.Mathlib.Omega.{arith}
 use borrow.Author.Needs.{needs}
-use Rattle.processors.specs.Limits.{processors}
+use Rattle.numbers.specs.Limits.{mostProcessors}
 use Rattle.locking.proofs.Places.{Marked, marked-none, marked-turn, marked-past, marked-all}
 use Rattle.locking.proofs.counting.mark.Statement.{statement}
 use Rattle.locking.proofs.counting.mark.Tie as tie
 
 abbrev Inv-loop : tie.InvT-loop
-Inv-loop places₀ place tasks k₀ places k = (k ≤ processors) × Marked place tasks places₀ k places
+Inv-loop places₀ place tasks k₀ places k = (k ≤ mostProcessors) × Marked place tasks places₀ k places
 
 abbrev μ-loop : tie.MeasureT-loop
-μ-loop places₀ place tasks k₀ places k = processors - k
+μ-loop places₀ place tasks k₀ places k = mostProcessors - k
 
 loop-holds : tie.Need-loop-holds Inv-loop μ-loop
 loop-holds c = (search needs, marked-none (c .args .place) (c .args .t2) (c .args .places .now) (c .pre))
@@ -51,7 +51,7 @@ returns : tie.Need-returns Inv-loop μ-loop
 returns c =
     let a = c .before .before .args in
     let o = c .before .loop in
-    let e : o .k ≡ processors = omega arith in
+    let e : o .k ≡ mostProcessors = omega arith in
     marked-all (a .place) (a .t2) (a .places .now) (o .places) (rw e at (o .inv .1))
 
 pub mark-spec : {M : Type 1} → statement M

@@ -7,8 +7,8 @@ use borrow.Author.Needs.{needs}
 use lib.ListN.{drop, replicate}
 use Rattle.search.specs.Table.{table}
 use Rattle.search.proofs.Tables.{table-none, table-turn, table-all}
-use Rattle.protocol.specs.Words.{totalCount}
-use Rattle.tables.proofs.Reading.{task-read}
+use Rattle.protocol.specs.Records.{totalCount}
+use Rattle.states.proofs.Tables.{task-read}
 use Rattle.locking.specs.Totals.{allTotals, totalsIn}
 use Rattle.locking.proofs.Totals.{totalIn}
 use Rattle.locking.proofs.counting.totals_of.Statement.{statement}

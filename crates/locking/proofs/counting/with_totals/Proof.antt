@@ -7,8 +7,8 @@ use borrow.Author.Needs.{needs}
 use lib.ListN.{length, drop}
 use Rattle.search.specs.Table.{table}
 use Rattle.search.proofs.Tables.{table-none, table-turn, table-all}
-use Rattle.input.specs.Limits.{mostTasks}
-use Rattle.tables.proofs.Reading.{task-read}
+use Rattle.numbers.specs.Limits.{mostTasks}
+use Rattle.states.proofs.Tables.{task-read}
 use Rattle.locking.specs.Totals.{counted}
 use Rattle.locking.proofs.Charging.{rest-at}
 use Rattle.locking.proofs.Totals.{recordIn}

@@ -7,12 +7,12 @@ use lib.ListN.{getD}
 use borrow.Author.Needs.{needs}
 use Rattle.search.specs.Words.{_is_}
 use Rattle.search.specs.Below.{anyBelow}
-use Rattle.protocol.specs.Words.{nobody}
+use Rattle.numbers.specs.Limits.{nothing}
 use Rattle.locking.proofs.judging.is_open.Statement.{statement}
 use Rattle.locking.proofs.judging.is_open.Tie as tie
 
 abbrev Inv-loop : tie.InvT-loop
-Inv-loop requests depth r some₀ i₀ some i = (i ≤ depth) × (some ≡ anyBelow i (λ i. getD requests i nobody is r))
+Inv-loop requests depth r some₀ i₀ some i = (i ≤ depth) × (some ≡ anyBelow i (λ i. getD requests i nothing is r))
 
 abbrev μ-loop : tie.MeasureT-loop
 μ-loop requests depth r some₀ i₀ some i = depth - i

@@ -8,16 +8,16 @@ use lib.Dec.{leb, ltb}
 use lib.ListN.{getD}
 use Rattle.search.specs.Words.{if_then_else_, _is_, _isn't_}
 use Rattle.search.specs.Below.{anyBelow}
-use Rattle.search.specs.Rows.{_when_, _otherwise_, firstOf}
+use Rattle.numbers.specs.Rows.{_when_, _otherwise_, firstOf}
 use Rattle.processors.specs.declared.Processors.{Processors}
-use Rattle.input.specs.Words.{period}
-use Rattle.input.specs.Words.{within}
+use Rattle.input.specs.Words.{period, within}
 use Rattle.setups.specs.Naming.{groupOf}
 use Rattle.input.specs.Kinds.{arrival, finish, request as asking, completion}
-use Rattle.input.specs.declared.SetUp.{SetUp}
+use Rattle.input.specs.declared.Setup.{Setup}
 use Rattle.input.specs.declared.Event.{Event}
-use Rattle.protocol.specs.Words.{mostRequests, nobody, lastClock, absent, standingNo, task, stand, depth, request}
-use Rattle.protocol.specs.Situations.{situationOf, situation, hindrance}
+use Rattle.numbers.specs.Limits.{mostRequests, nothing}
+use Rattle.protocol.specs.Words.{lastClock, absent, standingNo, task, stand, depth, request}
+use Rattle.protocol.specs.Situations.{situationOf, situation, situationRefusal}
 use Rattle.protocol.specs.Refusals.{ticksTo, misplaced, fieldRows, eventRows, judge}
 use Rattle.protocol.specs.declared.Task.{Task}
 use Rattle.protocol.specs.declared.Situation.{Situation}
@@ -27,18 +27,18 @@ use Rattle.locking.proofs.judging.judge_sound.Statement.{statement}
 use Rattle.locking.proofs.judging.judge_sound.Tie as tie
 
 -- the rule from what the code reads and computes, line by line
-judged : (s : State) (e : Event) {c : SetUp} {clock : ℕ} {k : Task} {p : Processors} {named : List ℕ} {x : Situation} {st hinders now per new step r25 r24 r23 r22 r21 r20 r19 r18 r17 r16 r15 r14 r10 : ℕ} {mis seen : Bool}
+judged : (s : State) (e : Event) {c : Setup} {clock : ℕ} {k : Task} {p : Processors} {naming : List ℕ} {x : Situation} {st hinders now per new step r25 r24 r23 r22 r21 r20 r19 r18 r17 r16 r15 r14 r10 : ℕ} {mis seen : Bool}
     → st ≡ standingNo (k .standing)
     → x ≡ situationOf st p (e .task)
-    → hinders ≡ hindrance x
+    → hinders ≡ situationRefusal x
     → now ≡ clock + ticksTo clock (e .tick)
     → per ≡ period c (e .task)
-    → new ≡ getD (k .requests) (k .depth - 1) nobody
+    → new ≡ getD (k .requests) (k .depth - 1) nothing
     → r25 ≡ (if e .kind is completion && (k .depth is 0 || new isn't e .resource) then 25 else 0)
     → r24 ≡ (if e .kind is asking && k .depth is mostRequests then 24 else r25)
-    → mis ≡ anyBelow (k .depth) (λ i. isApart (c .kinds) named (e .resource) (getD (k .requests) i nobody))
+    → mis ≡ anyBelow (k .depth) (λ i. isApart (c .kinds) naming (e .resource) (getD (k .requests) i nothing))
     → r23 ≡ (if e .kind is asking && mis then 23 else r24)
-    → seen ≡ anyBelow (k .depth) (λ i. getD (k .requests) i nobody is e .resource)
+    → seen ≡ anyBelow (k .depth) (λ i. getD (k .requests) i nothing is e .resource)
     → r22 ≡ (if e .kind is asking && seen then 22 else r23)
     → r21 ≡ (if e .kind is finish && k .depth isn't 0 then 21 else r22)
     → r20 ≡ (if within finish (e .kind) completion && hinders is 20 then 20 else r21)
@@ -50,7 +50,7 @@ judged : (s : State) (e : Event) {c : SetUp} {clock : ℕ} {k : Task} {p : Proce
     → step ≡ ticksTo clock (e .tick)
     → r14 ≡ (if leb 32768 step then 14 else r15)
     → r10 ≡ firstOf (fieldRows (c .tasks) (c .resources) e ++ (r14 when true otherwise []))
-    → HasParts s c clock k p named true e
+    → HasParts s c clock k p naming true e
     → r10 ≡ judge s e
 unfolding judge eventRows stand depth request situation misplaced groupOf
 judged s e {k = k} st x hin now per new r25 r24 mis r23 seen r22 r21 r20 r19 r18 r17 r16 r15 step r14 r10 has =
@@ -59,7 +59,7 @@ judged s e {k = k} st x hin now per new r25 r24 mis r23 seen r22 r21 r20 r19 r18
     let at-depth : k .depth ≡ task s (e .task) .depth = sym (ap (λ (x : Task). x .depth) (has .recorded)) in
     let at-arrived : k .arrived ≡ task s (e .task) .arrived = sym (ap (λ (x : Task). x .arrived) (has .recorded)) in
     let at-last : k .last ≡ task s (e .task) .last = sym (ap (λ (x : Task). x .last) (has .recorded)) in
-    rw (r10, r14, r15, r16, r17, r18, r19, r20, r21, r22, r23, r24, r25, step, seen, mis, new, per, now, hin, x, st, at-standing, at-requests, at-depth, at-arrived, at-last, has .naming, ← (has .tested), has .timed, has .placed, has .given)
+    rw (r10, r14, r15, r16, r17, r18, r19, r20, r21, r22, r23, r24, r25, step, seen, mis, new, per, now, hin, x, st, at-standing, at-requests, at-depth, at-arrived, at-last, has .named, ← (has .truly), has .timed, has .placed, has .given)
 
 stand-of-requires : tie.Need-stand-of-requires
 stand-of-requires c κs = search needs
@@ -67,23 +67,23 @@ stand-of-requires c κs = search needs
 situation-of-requires : tie.Need-situation-of-requires
 situation-of-requires c κs = search needs
 
-hindrance-of-requires : tie.Need-hindrance-of-requires
-hindrance-of-requires c κs = search needs
+situation-refusal-requires : tie.Need-situation-refusal-requires
+situation-refusal-requires c κs = search needs
 
 clock-after-requires : tie.Need-clock-after-requires
 clock-after-requires c κs = search needs
 
-cast-due : tie.Need-cast-due
-cast-due c = search needs
+cast-earliest : tie.Need-cast-earliest
+cast-earliest c = search needs
 
 period-at-requires : tie.Need-period-at-requires
 period-at-requires c κs = search needs
 
-cast-due-2 : tie.Need-cast-due-2
-cast-due-2 c = search needs
+cast-earliest-2 : tie.Need-cast-earliest-2
+cast-earliest-2 c = search needs
 
-add-due : tie.Need-add-due
-add-due c = search needs
+add-earliest : tie.Need-add-earliest
+add-earliest c = search needs
 
 newest-requires : tie.Need-newest-requires
 newest-requires c κs = search needs
@@ -146,7 +146,7 @@ returns c =
     (tests .before .before .before .before .before .before .before .before .before .before .before .before .before .before .args .e)
     (tests .before .before .before .before .before .before .before .before .before .before .stand-of .ensures)
     (tests .before .before .before .before .before .before .before .before .before .situation-of .ensures)
-    (tests .before .before .before .before .before .before .before .before .hindrance-of .ensures)
+    (tests .before .before .before .before .before .before .before .before .situation-refusal .ensures)
     (tests .before .before .before .before .before .before .before .clock-after .ensures)
     (tests .before .before .before .before .before .period-at .ensures)
     (tests .newest .ensures)
@@ -174,12 +174,12 @@ judge-sound-spec =
     (tie.spec
     stand-of-requires
     situation-of-requires
-    hindrance-of-requires
+    situation-refusal-requires
     clock-after-requires
-    cast-due
+    cast-earliest
     period-at-requires
-    cast-due-2
-    add-due
+    cast-earliest-2
+    add-earliest
     newest-requires
     row-requires
     row-requires-2

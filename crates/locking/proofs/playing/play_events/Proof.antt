@@ -8,29 +8,30 @@ use mathlib.Core.Logic.{⊎-elim}
 use native.Mathlib.Omega.{arith}
 use lib.ListN.{length, getD, set, length-set, List·getD-eq-default}
 use Rattle.processors.specs.declared.Processors.{Processors}
-use Rattle.input.specs.Limits.{mostTasks, mostResources}
+use Rattle.numbers.specs.Limits.{mostTasks, mostResources, mostRequests, nobody}
 use Rattle.input.specs.Kinds.{request as asking, completion}
 use Rattle.input.specs.Layout.{eventIn}
 use Rattle.input.specs.declared.Event.{Event}
 use Rattle.setups.specs.Naming.{names}
-use Rattle.input.specs.Words.{period}
-use Rattle.input.specs.declared.SetUp.{SetUp}
-use Rattle.protocol.specs.Words.{mostRequests, nobody, noTask, noGroup, task}
+use Rattle.input.specs.Words.{period, dueAt}
+use Rattle.input.specs.declared.Setup.{Setup}
+use Rattle.protocol.specs.Records.{noTask, noGroup, withTotals}
+use Rattle.protocol.specs.Words.{task}
 use Rattle.protocol.specs.Refusals.{ticksTo, judge}
 use Rattle.protocol.specs.Events.{step}
 use Rattle.protocol.specs.declared.Task.{Task}
 use Rattle.protocol.specs.declared.Group.{Group}
 use Rattle.protocol.specs.declared.State.{State}
 use Rattle.protocol.proofs.Reflect.{Shaped, sound-of-test}
-use Rattle.tables.proofs.Reading.{task-read, group-read}
-use Rattle.states.specs.Writing.{lineSize, lineOf}
+use Rattle.states.proofs.Tables.{task-read, group-read}
+use Rattle.states.specs.Writing.{snapshotSize, snapshotOf}
 use Rattle.soundness.specs.declared.Tested.{Tested}
 use Rattle.locking.specs.Edits.{editing, handing}
 use Rattle.locking.specs.Keeping.{Keeps}
 use Rattle.locking.specs.Playing.{playedTo, writtenTo}
 use Rattle.locking.specs.Steps.{HasParts}
 use Rattle.locking.specs.declared.moving.Kept.{Kept}
-use Rattle.locking.specs.Totals.{rowOf, totalsAs, chargedTo}
+use Rattle.locking.specs.Totals.{rowOf, chargedTo}
 use Rattle.locking.proofs.Accepted.{step-answer, refused-stays, accepted-sound}
 use Rattle.locking.proofs.Accepting.{Accepts, few-tasks, clock-room, can-charge, task-in, may-edit, may-move, plays, next-may, next-moves, plays-on}
 use Rattle.locking.proofs.Along.{sound-along, kept-along, few-along, long-along, room-along, played-turn, buffer-turn}
@@ -41,17 +42,17 @@ use Rattle.locking.proofs.playing.play_events.Statement.{statement}
 use Rattle.locking.proofs.playing.play_events.Tie as tie
 
 -- the state that the parts were taken from, and the one after the events so far
-abbrev begun : SetUp → ℕ → List Task → List Group → Processors → State
+abbrev begun : Setup → ℕ → List Task → List Group → Processors → State
 begun setup clock tasks groups p = record { setup = setup; clock = clock; tasks = tasks; groups = groups; processors = p }
 
 abbrev Inv-loop : tie.InvT-loop
-Inv-loop tested part count out₀ setup kinds named clock₀ tasks₀ groups₀ p₀ totals₀ kept₀ at₀ i₀ out clock tasks groups p totals kept at i =
-    (i ≤ count) × (at ≡ lineSize * i)
+Inv-loop tested part count out₀ setup kinds naming clock₀ tasks₀ groups₀ p₀ totals₀ kept₀ at₀ i₀ out clock tasks groups p totals kept at i =
+    (i ≤ count) × (at ≡ snapshotSize * i)
     × Keeps (playedTo (begun setup clock₀ tasks₀ groups₀ p₀) part i) clock tasks groups p totals (kept .own) (kept .modes) (kept .stands)
     × (out ≡ writtenTo (begun setup clock₀ tasks₀ groups₀ p₀) part out₀ i)
 
 abbrev μ-loop : tie.MeasureT-loop
-μ-loop tested part count out₀ setup kinds named clock₀ tasks₀ groups₀ p₀ totals₀ kept₀ at₀ i₀ out clock tasks groups p totals kept at i = count - i
+μ-loop tested part count out₀ setup kinds naming clock₀ tasks₀ groups₀ p₀ totals₀ kept₀ at₀ i₀ out clock tasks groups p totals kept at i = count - i
 
 abbrev reached : tie.At-loop Inv-loop μ-loop → State
 reached c = playedTo ((c .before .before .before .before .before .before .before .before .before .before .before) .args .state) ((c .before .before .before .before .before .before .before .before .before .before .before) .args .part .now) (c .loop .i)
@@ -60,7 +61,7 @@ whole : (c : tie.At-loop Inv-loop μ-loop) → Shaped ((c .before .before .befor
 whole c = shaped _ _ ((c .before .before .before .before .before .before .before .before .before .before .before) .good .0)
 
 -- the record read is that of the event's task, but for its totals
-record-read : (c : tie.Joined1 Inv-loop μ-loop) → (w : List ℕ) × (task (reached (c .before .before .before .before)) (c .before .before .event-at .result .task) ≡ totalsAs w (c .if1 .task))
+record-read : (c : tie.Joined1 Inv-loop μ-loop) → (w : List ℕ) × (task (reached (c .before .before .before .before)) (c .before .before .event-at .result .task) ≡ withTotals w (c .if1 .task))
 record-read c =
     let o = c .before .before .before .before .loop in
     let K = o .inv .2 in
@@ -71,14 +72,14 @@ record-read c =
     (λ w. (
       rowOf (o .totals) t,
       keeps-task s (o .clock) (o .tasks) (o .groups) (o .p) (o .totals) (o .kept .own) (o .kept .modes) (o .kept .stands) K t (w .0 .taken)
-          ∙ ap (totalsAs (rowOf (o .totals) t)) (sym (w .2 ∙ task-read (o .tasks) t (omega (arith, K .few, w .0 .taken)))),
+          ∙ ap (withTotals (rowOf (o .totals) t)) (sym (w .2 ∙ task-read (o .tasks) t (omega (arith, K .few, w .0 .taken)))),
     ))
-    (λ w. (noTask .totals, List·getD-eq-default (s .tasks) noTask (omega (arith, long, w .0 .left)) ∙ ap (totalsAs (noTask .totals)) (sym (w .2 ∙ w .1 .ensures))))
+    (λ w. (noTask .totals, List·getD-eq-default (s .tasks) noTask (omega (arith, long, w .0 .left)) ∙ ap (withTotals (noTask .totals)) (sym (w .2 ∙ w .1 .ensures))))
     (c .if1 .came)
 
 -- what the answer is made of
 has-parts : (c : tie.After-judge-parts Inv-loop μ-loop)
-    → HasParts (reached (c .before .before .before .before .before)) ((c .before .before .before .before .before .before .before .before .before .before .before .before .before .before .before .before) .args .state .setup) (c .before .before .before .before .before .loop .clock) (c .before .if1 .task) (c .before .before .before .before .before .loop .p) ((c .before .before .before .before .before .before .before .before .before .before .before .before .before .before .before .before) .args .tested .named) ((c .before .before .before .before .before .before .before .before .before .before .before .before .before .before .before .before) .args .tested .passes) (c .before .before .before .event-at .result)
+    → HasParts (reached (c .before .before .before .before .before)) ((c .before .before .before .before .before .before .before .before .before .before .before .before .before .before .before .before) .args .state .setup) (c .before .before .before .before .before .loop .clock) (c .before .if1 .task) (c .before .before .before .before .before .loop .p) ((c .before .before .before .before .before .before .before .before .before .before .before .before .before .before .before .before) .args .tested .naming) ((c .before .before .before .before .before .before .before .before .before .before .before .before .before .before .before .before) .args .tested .passes) (c .before .before .before .event-at .result)
 has-parts c =
     let o = c .before .before .before .before .before .loop in
     let start = (c .before .before .before .before .before .before .before .before .before .before .before .before .before .before .before .before) in
@@ -90,8 +91,8 @@ has-parts c =
       totals = read .0;
       recorded = read .1;
       placed = o .inv .2 .placed;
-      naming = ap (λ (y : Tested). y .named) (start .pre .0);
-      tested = ap (λ (y : Tested). y .passes) (start .pre .0) ∙ sym (kept .0);
+      named = ap (λ (y : Tested). y .naming) (start .pre .0);
+      truly = ap (λ (y : Tested). y .passes) (start .pre .0) ∙ sym (kept .0);
     }
 
 -- an accepted event of a sound state
@@ -110,7 +111,7 @@ accepts c =
       sound = sound-along (start .args .state) (start .args .part .now) (sound-of-test _ Z (sym (kept .0) ∙ accepted-sound s e ok)) (o .i) .0;
       ok = ok;
       given = sym (kept .1);
-      short = λ u. subst (λ (x : SetUp). period x u < 65536) (sym (kept .1)) (periods-short (start .args .state) _ (start .good .0) u);
+      short = λ u. subst (λ (x : Setup). period x u < 65536) (sym (kept .1)) (periods-short (start .args .state) _ (start .good .0) u);
       keeps = o .inv .2;
       stepped = c .step-to .ensures ∙ ap (λ (k : ℕ). ticksTo k (e .tick)) (o .inv .2 .timed);
     }
@@ -124,10 +125,10 @@ groups-long : (c : tie.After-step-to Inv-loop μ-loop) → length ((c .before .b
 groups-long c = ap length ((c .before .before .before .before .before .before .before .loop) .inv .2 .grouped) ∙ accepts c .sound .steady .sized .groups
 
 placed-at : (c : tie.After-place-in Inv-loop μ-loop) → getD (names ((c .before .before .before .before .before .before .before .before .before .before .before .before .before .before .before .before .before .before .before .before .before .before .before) .args .state .setup)) ((c .before .before .before .before .before .before .before .before .before .before .event-at) .result .resource) nobody < mostResources → c .place-in .result ≡ getD (names ((c .before .before .before .before .before .before .before .before .before .before .before .before .before .before .before .before .before .before .before .before .before .before .before) .args .state .setup)) ((c .before .before .before .before .before .before .before .before .before .before .event-at) .result .resource) nobody
-placed-at c = subst (λ (l : List ℕ). getD l ((c .before .before .before .before .before .before .before .before .before .before .event-at) .result .resource) nobody < mostResources → c .place-in .result ≡ getD l ((c .before .before .before .before .before .before .before .before .before .before .event-at) .result .resource) nobody) (ap (λ (y : Tested). y .named) ((c .before .before .before .before .before .before .before .before .before .before .before .before .before .before .before .before .before .before .before .before .before .before .before) .pre .0)) (c .place-in .ensures .1)
+placed-at c = subst (λ (l : List ℕ). getD l ((c .before .before .before .before .before .before .before .before .before .before .event-at) .result .resource) nobody < mostResources → c .place-in .result ≡ getD l ((c .before .before .before .before .before .before .before .before .before .before .event-at) .result .resource) nobody) (ap (λ (y : Tested). y .naming) ((c .before .before .before .before .before .before .before .before .before .before .before .before .before .before .before .before .before .before .before .before .before .before .before) .pre .0)) (c .place-in .ensures .1)
 
-edit-is : (c : tie.After-edited Inv-loop μ-loop) → c .edited .result ≡ editing ((c .before .before .before .before .before .before .before .before .before .before .before .before .before .before .before .before .before .before .before .before .before .before .before .before .before .before) .args .state .setup .kinds) (period ((c .before .before .before .before .before .before .before .before .before .before .before .before .before .before .before .before .before .before .before .before .before .before .before .before .before .before) .args .state .setup) ((c .before .before .before .before .before .before .before .before .before .before .before .before .before .event-at) .result .task)) ((c .before .before .before .before .before .before .before .before .before .before .before .before .before .before .before .loop) .clock + (c .before .before .before .before .before .before .before .before .step-to) .result) (getD ((c .before .before .before .before .before .before .before .before .before .before .before .before .before .before .before .loop) .tasks) ((c .before .before .before .before .before .before .before .before .before .before .before .before .before .event-at) .result .task) noTask) (getD ((c .before .before .before .before .before .before .before .before .before .before .before .before .before .before .before .loop) .groups) ((c .before .before .before .place-in) .result) noGroup) ((c .before .before .before .before .before .before .before .before .before .before .before .before .before .event-at) .result)
-edit-is c = rw (task-is (c .before .before .before .before .before .before .before .before .before .before .before) (task-in (accepts (c .before .before .before .before .before .before .before .before))), group-read ((c .before .before .before .before .before .before .before .before .before .before .before .before .before .before .before .loop) .groups) ((c .before .before .before .place-in) .result) (omega (arith, groups-long (c .before .before .before .before .before .before .before .before), (c .before .before .before .place-in) .ensures .0))) at (c .edited .ensures)
+edit-is : (c : tie.After-edited Inv-loop μ-loop) → c .edited .result ≡ editing ((c .before .before .before .before .before .before .before .before .before .before .before .before .before .before .before .before .before .before .before .before .before .before .before .before .before .before) .args .state .setup .kinds) (dueAt ((c .before .before .before .before .before .before .before .before .before .before .before .before .before .before .before .before .before .before .before .before .before .before .before .before .before .before) .args .state .setup) ((c .before .before .before .before .before .before .before .before .before .before .before .before .before .event-at) .result .task) ((c .before .before .before .before .before .before .before .before .before .before .before .before .before .before .before .loop) .clock + (c .before .before .before .before .before .before .before .before .step-to) .result)) ((c .before .before .before .before .before .before .before .before .before .before .before .before .before .before .before .loop) .clock + (c .before .before .before .before .before .before .before .before .step-to) .result) (getD ((c .before .before .before .before .before .before .before .before .before .before .before .before .before .before .before .loop) .tasks) ((c .before .before .before .before .before .before .before .before .before .before .before .before .before .event-at) .result .task) noTask) (getD ((c .before .before .before .before .before .before .before .before .before .before .before .before .before .before .before .loop) .groups) ((c .before .before .before .place-in) .result) noGroup) ((c .before .before .before .before .before .before .before .before .before .before .before .before .before .event-at) .result)
+edit-is c = rw (c .before .due-at .ensures, task-is (c .before .before .before .before .before .before .before .before .before .before .before) (task-in (accepts (c .before .before .before .before .before .before .before .before))), group-read ((c .before .before .before .before .before .before .before .before .before .before .before .before .before .before .before .loop) .groups) ((c .before .before .before .place-in) .result) (omega (arith, groups-long (c .before .before .before .before .before .before .before .before), (c .before .before .before .place-in) .ensures .0))) at (c .edited .ensures)
 
 -- who is handed the group
 heir-in : (c : tie.Then3 Inv-loop μ-loop) → ((c .before .before .before .before .before .before .edited) .result .next < mostTasks) × (getD (set ((c .before .before .before .before .before .before .before .before .before .before .before .before .before .before .before .before .before .before .before .before .before .loop) .tasks) ((c .before .before .before .before .before .before .before .before .before .before .before .before .before .before .before .before .before .before .before .event-at) .result .task) ((c .before .before .before .before .before .before .edited) .result .task)) ((c .before .before .before .before .before .before .edited) .result .next) noTask .depth < mostRequests)
@@ -149,9 +150,9 @@ answered c = c .before .judge-parts .ensures _ (has-parts (c .before))
 goes-on : (c : tie.Joined2 Inv-loop μ-loop) → Keeps (step (reached (c .before .before .before .before .before .before)) ((c .before .before .before .before .event-at) .result) .state) (c .if2 .clock) (c .if2 .tasks) (c .if2 .groups) (c .if2 .p) (c .if2 .totals) (c .if2 .kept .own) (c .if2 .kept .modes) (c .if2 .kept .stands)
 goes-on c =
     ⊎-elim
-    (λ w. rw (w .23, w .24, w .25, w .26, w .27 ∙ w .4 .ensures, w .28) (handed-on (record { before = record { before = record { before = record { before = record { before = record { before = record { before = record { before = record { before = record { before = record { before = record { before = record { before = record { before = record { before = record { before = record { before = record { before = record { before = record { before = record { before = record { before = record { before = c .before; if2 = w .0 }; step-to = w .1 }; stands = w .2 }; totals = w .3 }; charge = w .4 }; totals2 = w .5 }; place-in = w .6 }; held = w .7 }; edited-arg = w .8 }; edited = w .9 }; mine = w .10 }; group = w .11 }; keep = w .12 }; moved = w .13 }; struct-known2 = w .14 }; if3 = w .15 }; struct-known3 = w .16 }; waits = w .17 }; hand-over = w .18 }; heir = w .19 }; line = w .20 }; keep2 = w .21 }; moved2 = w .22 })))
+    (λ w. rw (w .23, w .24, w .25, w .26, w .27 ∙ w .4 .ensures, w .28) (handed-on (record { before = record { before = record { before = record { before = record { before = record { before = record { before = record { before = record { before = record { before = record { before = record { before = record { before = record { before = record { before = record { before = record { before = record { before = record { before = record { before = record { before = record { before = record { before = c .before; if2 = w .0 }; step-to = w .1 }; stands = w .2 }; totals = w .3 }; charge = w .4 }; totals2 = w .5 }; place-in = w .6 }; held = w .7 }; due-at = w .8 }; edited = w .9 }; mine = w .10 }; group = w .11 }; keep = w .12 }; moved = w .13 }; struct-known2 = w .14 }; if3 = w .15 }; struct-known3 = w .16 }; waits = w .17 }; hand-over = w .18 }; heir = w .19 }; line = w .20 }; keep2 = w .21 }; moved2 = w .22 })))
     (⊎-elim
-    (λ w. rw (w .16, w .17, w .18, w .19, w .20 ∙ w .4 .ensures, w .21) (ended-on (record { before = record { before = record { before = record { before = record { before = record { before = record { before = record { before = record { before = record { before = record { before = record { before = record { before = record { before = record { before = record { before = c .before; if2 = w .0 }; step-to = w .1 }; stands = w .2 }; totals = w .3 }; charge = w .4 }; totals2 = w .5 }; place-in = w .6 }; held = w .7 }; edited-arg = w .8 }; edited = w .9 }; mine = w .10 }; group = w .11 }; keep = w .12 }; moved = w .13 }; struct-known2 = w .14 }; if3 = w .15 })))
+    (λ w. rw (w .16, w .17, w .18, w .19, w .20 ∙ w .4 .ensures, w .21) (ended-on (record { before = record { before = record { before = record { before = record { before = record { before = record { before = record { before = record { before = record { before = record { before = record { before = record { before = record { before = record { before = record { before = c .before; if2 = w .0 }; step-to = w .1 }; stands = w .2 }; totals = w .3 }; charge = w .4 }; totals2 = w .5 }; place-in = w .6 }; held = w .7 }; due-at = w .8 }; edited = w .9 }; mine = w .10 }; group = w .11 }; keep = w .12 }; moved = w .13 }; struct-known2 = w .14 }; if3 = w .15 })))
     (λ w. rw (w .1, w .2, w .3, w .4, w .5, w .6, refused-stays (reached (c .before .before .before .before .before .before)) ((c .before .before .before .before .event-at) .result) (λ q. w .0 .left (answered c ∙ q))) ((c .before .before .before .before .before .before .loop) .inv .2)))
     (c .if2 .came)
 
@@ -207,11 +208,8 @@ mul-held c = search needs
 array-copy-out-held : tie.Need-array-copy-out-held Inv-loop μ-loop
 array-copy-out-held c = search needs
 
-mul-edited : tie.Need-mul-edited Inv-loop μ-loop
-mul-edited c = let l = task-in (accepts (c .before .before .before .before .before .before)) in search needs
-
-element-copy-out-edited : tie.Need-element-copy-out-edited Inv-loop μ-loop
-element-copy-out-edited c = task-in (accepts (c .before .before .before .before .before .before))
+due-at-requires : tie.Need-due-at-requires Inv-loop μ-loop
+due-at-requires c κs = search needs
 
 edited-requires : tie.Need-edited-requires Inv-loop μ-loop
 edited-requires c κs = subst (λ (x : Task). ((c .before .before .before .before .before .before .before .before .before .before .before .before .event-at) .result .kind ≡ asking → x .depth < mostRequests) × ((c .before .before .before .before .before .before .before .before .before .before .before .before .event-at) .result .kind ≡ completion → (0 < x .depth) × (x .depth ≤ mostRequests))) (sym (task-is (c .before .before .before .before .before .before .before .before .before .before) (task-in (accepts (c .before .before .before .before .before .before .before))))) (may-edit (accepts (c .before .before .before .before .before .before .before)) ((c .before .before .place-in) .result) ((c .before .before .place-in) .ensures .0) (placed-at (c .before .before)))
@@ -264,11 +262,11 @@ keep-requires-2 c κs = heir-in (c .before .before .before .before .before) .0
 moved-requires-2 : tie.Need-moved-requires-2 Inv-loop μ-loop
 moved-requires-2 c κs = next-moves (accepts (c .before .before .before .before .before .before .before .before .before .before .before .before .before .before .before .before .before .before .before .before)) ((c .before .before .before .before .before .before .before .before .before .before .before .before .before .before .before .place-in) .result) ((c .before .before .before .before .before .before .before .before .before .before .before .before .before .before .before .place-in) .ensures .0) (placed-at (c .before .before .before .before .before .before .before .before .before .before .before .before .before .before .before)) ((c .before .before .before .before .before .before .before .before .before .before .before .before .edited) .result) (edit-is (c .before .before .before .before .before .before .before .before .before .before .before .before)) ((c .before .before .before .before .before .before .before .before .before .keep) .result .own) ((c .before .before .before .before .before .before .before .before .before .keep) .result .modes) ((c .before .before .before .before .before .before .before .before .before .keep) .result .stands) (ap (λ (k : Kept). k .own) ((c .before .before .before .before .before .before .before .before .before .keep) .ensures)) (ap (λ (k : Kept). k .modes) ((c .before .before .before .before .before .before .before .before .before .keep) .ensures)) (ap (λ (k : Kept). k .stands) ((c .before .before .before .before .before .before .before .before .before .keep) .ensures)) ((c .before .before .before .before .before .before .before .before .moved) .result) ((c .before .before .before .before .before .before .before .before .moved) .ensures) ((c .before .before .before .before .before .before .if3) .taken) ((c .before .before .before .hand-over) .result) (heir-is (c .before .before .before)) ((c .keep2) .result .own) ((c .keep2) .result .modes) ((c .keep2) .result .stands) (ap (λ (k : Kept). k .own) ((c .keep2) .ensures)) (ap (λ (k : Kept). k .modes) ((c .keep2) .ensures)) (ap (λ (k : Kept). k .stands) ((c .keep2) .ensures))
 
-line-of-requires : tie.Need-line-of-requires Inv-loop μ-loop
-line-of-requires c κs = search needs
+snapshot-of-requires : tie.Need-snapshot-of-requires Inv-loop μ-loop
+snapshot-of-requires c κs = search needs
 
-put-line-requires : tie.Need-put-line-requires Inv-loop μ-loop
-put-line-requires c κs = rw ((c .before .before .before .before .before .before .before .before .loop) .inv .1, (c .before .before .before .before .before .before .before .before .loop) .inv .3) (room-along ((c .before .before .before .before .before .before .before .before .before .before .before .before .before .before .before .before .before .before .before) .args .state) ((c .before .before .before .before .before .before .before .before .before .before .before .before .before .before .before .before .before .before .before) .args .part .now) ((c .before .before .before .before .before .before .before .before .before .before .before .before .before .before .before .before .before .before .before) .args .out .now) ((c .before .before .before .before .before .before .before .before .loop) .i) (omega (arith, (c .before .before .before .before .before .before .before .loop-test) .taken, (c .before .before .before .before .before .before .before .before .before .before .before .before .before .before .before .before .before .before .before) .pre .1)))
+put-snapshot-requires : tie.Need-put-snapshot-requires Inv-loop μ-loop
+put-snapshot-requires c κs = rw ((c .before .before .before .before .before .before .before .before .loop) .inv .1, (c .before .before .before .before .before .before .before .before .loop) .inv .3) (room-along ((c .before .before .before .before .before .before .before .before .before .before .before .before .before .before .before .before .before .before .before) .args .state) ((c .before .before .before .before .before .before .before .before .before .before .before .before .before .before .before .before .before .before .before) .args .part .now) ((c .before .before .before .before .before .before .before .before .before .before .before .before .before .before .before .before .before .before .before) .args .out .now) ((c .before .before .before .before .before .before .before .before .loop) .i) (omega (arith, (c .before .before .before .before .before .before .before .loop-test) .taken, (c .before .before .before .before .before .before .before .before .before .before .before .before .before .before .before .before .before .before .before) .pre .1)))
 
 add-i : tie.Need-add-i Inv-loop μ-loop
 add-i c = search needs
@@ -285,9 +283,9 @@ loop-again c =
     let replied : step s e .state ≡ step s (eventIn ((c .before .before .before .before .before .before .before .before .before .before .before .before .before .before .before .before .before .before .before .before .before .before) .args .part .now) (o .i)) .state = ap (λ (x : Event). step s x .state) ((c .before .before .before .before .before .before .before .before .before .event-at) .ensures) in
     let said : (c .before .before .before .before .before .before .judge-parts) .result ≡ step s (eventIn ((c .before .before .before .before .before .before .before .before .before .before .before .before .before .before .before .before .before .before .before .before .before .before) .args .part .now) (o .i)) .answer = answered (c .before .before .before .before .before) ∙ sym (step-answer s e) ∙ ap (λ (x : Event). step s x .answer) ((c .before .before .before .before .before .before .before .before .before .event-at) .ensures) in (
       omega (arith, (c .before .before .before .before .before .before .before .before .before .before .loop-test) .taken),
-      omega (arith, (c .before .before .put-line) .ensures .0, o .inv .1),
+      omega (arith, (c .before .before .put-snapshot) .ensures .0, o .inv .1),
       subst (λ (x : State). Keeps x ((c .before .before .before .before .before .if2) .clock) ((c .before .before .before .before .before .if2) .tasks) ((c .before .before .before .before .before .if2) .groups) ((c .before .before .before .before .before .if2) .p) ((c .before .before .before .before .before .if2) .totals) ((c .before .before .before .before .before .if2) .kept .own) ((c .before .before .before .before .before .if2) .kept .modes) ((c .before .before .before .before .before .if2) .kept .stands)) (played-turn ((c .before .before .before .before .before .before .before .before .before .before .before .before .before .before .before .before .before .before .before .before .before .before) .args .state) ((c .before .before .before .before .before .before .before .before .before .before .before .before .before .before .before .before .before .before .before .before .before .before) .args .part .now) (o .i) (step s e .state) replied) K,
-      (rw (o .inv .1, o .inv .3) at ((c .before .before .put-line) .ensures .1)) ∙ buffer-turn ((c .before .before .before .before .before .before .before .before .before .before .before .before .before .before .before .before .before .before .before .before .before .before) .args .state) ((c .before .before .before .before .before .before .before .before .before .before .before .before .before .before .before .before .before .before .before .before .before .before) .args .part .now) ((c .before .before .before .before .before .before .before .before .before .before .before .before .before .before .before .before .before .before .before .before .before .before) .args .out .now) (o .i) ((c .before .before .before .before .before .before .judge-parts) .result) (step s e .state) ((c .before .before .before .line-of) .result) said replied ((c .before .before .before .line-of) .ensures ∙ ap (lineOf ((c .before .before .before .before .before .before .judge-parts) .result)) (K .placed)),
+      (rw (o .inv .1, o .inv .3) at ((c .before .before .put-snapshot) .ensures .1)) ∙ buffer-turn ((c .before .before .before .before .before .before .before .before .before .before .before .before .before .before .before .before .before .before .before .before .before .before) .args .state) ((c .before .before .before .before .before .before .before .before .before .before .before .before .before .before .before .before .before .before .before .before .before .before) .args .part .now) ((c .before .before .before .before .before .before .before .before .before .before .before .before .before .before .before .before .before .before .before .before .before .before) .args .out .now) (o .i) ((c .before .before .before .before .before .before .judge-parts) .result) (step s e .state) ((c .before .before .before .snapshot-of) .result) said replied ((c .before .before .before .snapshot-of) .ensures ∙ ap (snapshotOf ((c .before .before .before .before .before .before .judge-parts) .result)) (K .placed)),
     )
 
 with-totals-requires : tie.Need-with-totals-requires Inv-loop μ-loop
@@ -322,8 +320,7 @@ play-events-spec =
     place-in-requires
     mul-held
     array-copy-out-held
-    mul-edited
-    element-copy-out-edited
+    due-at-requires
     edited-requires
     mul-tasks
     array-set-from-tasks
@@ -341,8 +338,8 @@ play-events-spec =
     array-set-from-groups-2
     keep-requires-2
     moved-requires-2
-    line-of-requires
-    put-line-requires
+    snapshot-of-requires
+    put-snapshot-requires
     add-i
     loop-less
     loop-again

@@ -4,17 +4,17 @@ use native.Mathlib.Omega.{arith}
 use native.Mathlib.Numerals.{add-one}
 use borrow.Author.Needs.{needs}
 use Rattle.search.specs.Below.{allBelow}
-use Rattle.processors.specs.Words.{told}
-use Rattle.processors.specs.Limits.{tasks}
-use Rattle.placement.specs.PlacedTest.{taskHolds}
+use Rattle.processors.specs.Words.{jobsFrom}
+use Rattle.numbers.specs.Limits.{mostTasks}
+use Rattle.scheduler.specs.PlacedTest.{taskHolds}
 use Rattle.placement.proofs.placing.all_tasks_hold.Statement.{statement}
 use Rattle.placement.proofs.placing.all_tasks_hold.Tie as tie
 
 abbrev Inv-loop : tie.InvT-loop
-Inv-loop p ranks modes ok₀ t₀ ok t = (t ≤ tasks) × (ok ≡ allBelow t (taskHolds p (told ranks modes)))
+Inv-loop p ranks modes ok₀ t₀ ok t = (t ≤ mostTasks) × (ok ≡ allBelow t (taskHolds p (jobsFrom ranks modes)))
 
 abbrev μ-loop : tie.MeasureT-loop
-μ-loop p ranks modes ok₀ t₀ ok t = tasks - t
+μ-loop p ranks modes ok₀ t₀ ok t = mostTasks - t
 
 loop-holds : tie.Need-loop-holds Inv-loop μ-loop
 unfolding allBelow
@@ -35,7 +35,7 @@ loop-again c = (search needs, rw add-one (cc))
 
 returns : tie.Need-returns Inv-loop μ-loop
 returns c =
-    let e : c .before .loop .t ≡ tasks = omega arith in
+    let e : c .before .loop .t ≡ mostTasks = omega arith in
     rw e at (c .before .loop .inv .1)
 
 pub all-tasks-hold-spec : {M : Type 1} → statement M

@@ -1,6 +1,6 @@
 use Rattle.processors.specs.Words.{rankOf, modeOf}
 use borrow.Author.Needs.{needs}
-use Rattle.placement.specs.PlacedTest.{isPlaced, processorHolds, linkHolds, runHolds}
+use Rattle.scheduler.proofs.Testing.{test-parts}
 use Rattle.placement.proofs.placing.is_placed.Statement.{statement}
 use Rattle.placement.proofs.placing.is_placed.Tie as tie
 
@@ -11,8 +11,8 @@ all-tasks-hold-requires : tie.Need-all-tasks-hold-requires
 all-tasks-hold-requires c κs = search needs
 
 returns : tie.Need-returns
-unfolding isPlaced rankOf modeOf processorHolds linkHolds runHolds
-returns c = cc
+unfolding rankOf modeOf
+returns c = rw test-parts cc
 
 pub is-placed-spec : {M : Type 1} → statement M
 is-placed-spec = tie.close (tie.spec all-processors-hold-requires all-tasks-hold-requires returns)

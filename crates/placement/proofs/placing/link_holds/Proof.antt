@@ -1,5 +1,4 @@
 use borrow.Author.Needs.{needs}
-use Rattle.placement.specs.PlacedTest.{linkHolds}
 use Rattle.placement.proofs.placing.link_holds.Statement.{statement}
 use Rattle.placement.proofs.placing.link_holds.Tie as tie
 
@@ -16,7 +15,6 @@ link-of-requires : tie.Need-link-of-requires
 link-of-requires c κs = search needs
 
 returns : tie.Need-returns
-unfolding linkHolds
 returns c = cc
 
 pub link-holds-spec : {M : Type 1} → statement M

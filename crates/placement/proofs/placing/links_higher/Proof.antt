@@ -1,5 +1,4 @@
 use borrow.Author.Needs.{needs}
-use Rattle.placement.specs.PlacedTest.{linksHigher}
 use Rattle.placement.proofs.placing.links_higher.Statement.{statement}
 use Rattle.placement.proofs.placing.links_higher.Tie as tie
 
@@ -10,7 +9,6 @@ is-higher-requires : tie.Need-is-higher-requires
 is-higher-requires c κs = search needs
 
 returns : tie.Need-returns
-unfolding linksHigher
 returns c = cc
 
 pub links-higher-spec : {M : Type 1} → statement M

@@ -1,5 +1,4 @@
 use borrow.Author.Needs.{needs}
-use Rattle.placement.specs.PlacedTest.{processorHolds}
 use Rattle.placement.proofs.placing.processor_holds.Statement.{statement}
 use Rattle.placement.proofs.placing.processor_holds.Tie as tie
 
@@ -16,7 +15,6 @@ run-holds-requires : tie.Need-run-holds-requires
 run-holds-requires c κs = search needs
 
 returns : tie.Need-returns
-unfolding processorHolds
 returns c = cc
 
 pub processor-holds-spec : {M : Type 1} → statement M

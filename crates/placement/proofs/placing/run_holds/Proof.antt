@@ -1,5 +1,4 @@
 use borrow.Author.Needs.{needs}
-use Rattle.placement.specs.PlacedTest.{runHolds}
 use Rattle.placement.proofs.placing.run_holds.Statement.{statement}
 use Rattle.placement.proofs.placing.run_holds.Tie as tie
 
@@ -22,7 +21,6 @@ run-of-requires : tie.Need-run-of-requires
 run-of-requires c κs = search needs
 
 returns : tie.Need-returns
-unfolding runHolds
 returns c = cc
 
 pub run-holds-spec : {M : Type 1} → statement M

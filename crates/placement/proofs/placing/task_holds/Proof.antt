@@ -1,6 +1,5 @@
 use Rattle.processors.specs.Words.{rankOf, modeOf}
 use borrow.Author.Needs.{needs}
-use Rattle.placement.specs.PlacedTest.{taskHolds, linksHigher}
 use Rattle.placement.proofs.placing.task_holds.Statement.{statement}
 use Rattle.placement.proofs.placing.task_holds.Tie as tie
 
@@ -17,7 +16,7 @@ run-of-requires : tie.Need-run-of-requires
 run-of-requires c κs = search needs
 
 returns : tie.Need-returns
-unfolding taskHolds rankOf modeOf linksHigher
+unfolding rankOf modeOf
 returns c = cc
 
 pub task-holds-spec : {M : Type 1} → statement M

@@ -7,16 +7,16 @@ use borrow.Author.Needs.{needs}
 use Rattle.search.specs.Words.{_is_}
 use Rattle.search.specs.First.{first}
 use Rattle.search.proofs.Firsts.{first-turn}
-use Rattle.processors.specs.Limits.{processors, nobody}
+use Rattle.numbers.specs.Limits.{mostProcessors, nobody}
 use Rattle.processors.proofs.Shared.{down}
 use Rattle.processors.proofs.finding.place_of.Statement.{statement}
 use Rattle.processors.proofs.finding.place_of.Tie as tie
 
 abbrev Inv-loop : tie.InvT-loop
-Inv-loop tasks t found₀ n₀ found n = (n ≤ processors) × (found ≡ first (λ k. getD tasks k nobody is t) (processors - n) n)
+Inv-loop tasks t found₀ n₀ found n = (n ≤ mostProcessors) × (found ≡ first (λ k. getD tasks k nobody is t) (mostProcessors - n) n)
 
 abbrev μ-loop : tie.MeasureT-loop
-μ-loop tasks t found₀ n₀ found n = processors - n
+μ-loop tasks t found₀ n₀ found n = mostProcessors - n
 
 loop-holds : tie.Need-loop-holds Inv-loop μ-loop
 unfolding first
@@ -47,7 +47,7 @@ loop-again c =
 
 returns : tie.Need-returns Inv-loop μ-loop
 returns c =
-    let e : c .before .loop .n ≡ processors = omega arith in
+    let e : c .before .loop .n ≡ mostProcessors = omega arith in
     rw e at (c .before .loop .inv .1)
 
 pub place-of-spec : {M : Type 1} → statement M

@@ -3,7 +3,7 @@ use mathlib.Core.Path.{sym}
 use lib.ListN.{List·getD-eq-default}
 use borrow.Author.Needs.{needs}
 use Rattle.search.proofs.Tables.{getD-any}
-use Rattle.processors.specs.Limits.{nobody}
+use Rattle.numbers.specs.Limits.{nobody}
 use Rattle.processors.proofs.finding.task_at.Statement.{statement}
 use Rattle.processors.proofs.finding.task_at.Tie as tie
 

@@ -2,7 +2,7 @@
 use mathlib.Core.Path.{sym, _∙_}
 use lib.Seq.{getD-take}
 use borrow.Author.Needs.{needs}
-use Rattle.queue.specs.Limits.{nobody}
+use Rattle.numbers.specs.Limits.{nobody}
 use Rattle.queue.specs.Waiting.{waiting, waiter}
 use Rattle.queue.proofs.Lists.{take-past}
 use Rattle.queue.proofs.Queue.waiter.Statement.{statement}

@@ -4,7 +4,7 @@ use native.Mathlib.Numerals.{add-one}
 use native.Mathlib.Omega.{arith}
 use mathlib.Core.Path.{_≡_, ap, sym, _∙_}
 use borrow.Author.Tests.{ne-eqb}
-use Rattle.search.specs.Rows.{firstOf}
+use Rattle.numbers.specs.Rows.{firstOf}
 use Rattle.writer.specs.Written.{lentRows}
 use Rattle.writer.specs.EventBlocks.{eventRows, eventsWritten}
 use Rattle.writer.proofs.Answers.{lent-free, events-free}

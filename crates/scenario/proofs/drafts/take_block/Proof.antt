@@ -8,8 +8,8 @@ use Rattle.scenario.proofs.drafts.take_block.Tie as tie
 no-events-requires : tie.Need-no-events-requires
 no-events-requires c κs = search needs
 
-end-set-up-requires : tie.Need-end-set-up-requires
-end-set-up-requires c κs = search needs
+end-setup-requires : tie.Need-end-setup-requires
+end-setup-requires c κs = search needs
 
 same-length : tie.Need-same-length
 same-length c = search needs
@@ -19,7 +19,7 @@ unfolding blockTaken
 returns c =
     rw (
       eq-eqb _ _ (c .before .before .before .before .before .if1 .taken),
-      c .before .before .end-set-up .ensures,
+      c .before .before .end-setup .ensures,
       c .before .before .before .before .no-events .ensures,
     )
 
@@ -55,7 +55,7 @@ take-block-spec =
     tie.close
     (tie.spec
     no-events-requires
-    end-set-up-requires
+    end-setup-requires
     same-length
     returns
     kept-requires

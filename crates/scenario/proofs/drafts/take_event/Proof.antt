@@ -11,8 +11,8 @@ no-events-requires c κs = search needs
 with-event-requires : tie.Need-with-event-requires
 with-event-requires c κs = rw (c .no-events .ensures) (search needs)
 
-end-set-up-requires : tie.Need-end-set-up-requires
-end-set-up-requires c κs = search needs
+end-setup-requires : tie.Need-end-setup-requires
+end-setup-requires c κs = search needs
 
 same-length : tie.Need-same-length
 same-length c = search needs
@@ -22,7 +22,7 @@ unfolding eventTaken
 returns c =
     rw (
       eq-eqb _ _ (c .before .before .before .before .before .before .if1 .taken),
-      c .before .before .end-set-up .ensures,
+      c .before .before .end-setup .ensures,
       c .before .before .before .before .with-event .ensures,
       c .before .before .before .before .before .no-events .ensures,
     )
@@ -76,7 +76,7 @@ take-event-spec =
     (tie.spec
     no-events-requires
     with-event-requires
-    end-set-up-requires
+    end-setup-requires
     same-length
     returns
     no-events-requires-2

@@ -3,7 +3,7 @@ use Prim.Native.Nat.{ℕ}
 use mathlib.Core.Path.{_≡_, sym, ap, _∙_}
 use mathlib.Core.List.{List}
 use lib.ListN.{drop}
-use Rattle.search.specs.Rows.{firstOf}
+use Rattle.numbers.specs.Rows.{firstOf}
 use Rattle.scenario.specs.Items.{argumentAt, wrongRows}
 use Rattle.scenario.specs.Reads.{Fit}
 use Rattle.scenario.specs.declared.Argument.{Argument}
@@ -17,7 +17,7 @@ use Rattle.scenario.proofs.items.form_of.Reads as form-of-reads
 use Rattle.scenario.proofs.items.misfit.Reads as misfit-reads
 use Rattle.scenario.proofs.items.said.Reads as said-reads
 use Rattle.scenario.proofs.reading.read_argument.Reads as read-argument-reads
-use Rattle.search.proofs.row.Reads as row-reads
+use Rattle.numbers.proofs.row.Reads as row-reads
 
 form-of-requires : tie.Need-form-of-requires
 form-of-requires c κs = search needs

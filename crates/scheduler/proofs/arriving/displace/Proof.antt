@@ -11,8 +11,8 @@ link-at-requires c κs = search needs
 is-higher-requires : tie.Need-is-higher-requires
 is-higher-requires c κs = search needs
 
-is-preempted-requires : tie.Need-is-preempted-requires
-is-preempted-requires c κs = search needs
+can-preempt-requires : tie.Need-can-preempt-requires
+can-preempt-requires c κs = search needs
 
 place-on-requires : tie.Need-place-on-requires
 place-on-requires c κs = search needs
@@ -25,7 +25,7 @@ unfolding displacing rankOf modeOf
 returns c =
     let b = c .before .before .before in
     let a = b .before .before in
-    rw (lt-ltb _ _ (a .before .if1 .taken), ← c .before .before .is-preempted .ensures, c .before .if3 .taken, ← a .link-at .ensures, ← b .before .is-higher .ensures, b .if2 .taken)
+    rw (lt-ltb _ _ (a .before .if1 .taken), ← c .before .before .can-preempt .ensures, c .before .if3 .taken, ← a .link-at .ensures, ← b .before .is-higher .ensures, b .if2 .taken)
     (c .place-on .ensures)
 
 returns-2 : tie.Need-returns-2
@@ -33,7 +33,7 @@ unfolding displacing rankOf modeOf
 returns-2 c =
     let b = c .before .before .before in
     let a = b .before .before in
-    rw (lt-ltb _ _ (a .before .if1 .taken), ← c .before .before .is-preempted .ensures, c .before .if3 .left, ← a .link-at .ensures, ← b .before .is-higher .ensures, b .if2 .taken)
+    rw (lt-ltb _ _ (a .before .if1 .taken), ← c .before .before .can-preempt .ensures, c .before .if3 .left, ← a .link-at .ensures, ← b .before .is-higher .ensures, b .if2 .taken)
     (c .link-on .ensures)
 
 returns-3 : tie.Need-returns-3
@@ -50,7 +50,7 @@ displace-spec =
     (tie.spec
     link-at-requires
     is-higher-requires
-    is-preempted-requires
+    can-preempt-requires
     place-on-requires
     link-on-requires
     returns

@@ -5,24 +5,24 @@ use native.Mathlib.Omega.{arith}
 use borrow.Author.Needs.{needs}
 use Rattle.search.specs.First.{mask}
 use Rattle.search.proofs.Masks.{mask-small, bit-small, mask-turn}
-use Rattle.processors.specs.Limits.{processors}
+use Rattle.numbers.specs.Limits.{mostProcessors}
 use Rattle.scheduler.specs.Arriving.{isFree}
 use Rattle.processors.proofs.Shared.{down}
 use Rattle.scheduler.proofs.arriving.free_mask.Statement.{statement}
 use Rattle.scheduler.proofs.arriving.free_mask.Tie as tie
 
 abbrev Inv-loop : tie.InvT-loop
-Inv-loop p free₀ n₀ free n = (n ≤ processors) × (free ≡ mask (isFree p) (processors - n) n)
+Inv-loop p free₀ n₀ free n = (n ≤ mostProcessors) × (free ≡ mask (isFree p) (mostProcessors - n) n)
 
 abbrev μ-loop : tie.MeasureT-loop
-μ-loop p free₀ n₀ free n = processors - n
+μ-loop p free₀ n₀ free n = mostProcessors - n
 
 loop-holds : tie.Need-loop-holds Inv-loop μ-loop
 unfolding mask
 loop-holds c = search needs
 
 mul-free : tie.Need-mul-free Inv-loop μ-loop
-mul-free c = omega (arith, mask-small processors (isFree (c .before .before .args .p)) (processors - c .before .loop .n) _ (c .before .loop .inv .0))
+mul-free c = omega (arith, mask-small mostProcessors (isFree (c .before .before .args .p)) (mostProcessors - c .before .loop .n) _ (c .before .loop .inv .0))
 
 sub-is-free : tie.Need-sub-is-free Inv-loop μ-loop
 sub-is-free c = search needs
@@ -39,7 +39,7 @@ bit-of-requires c κs = search needs
 add-free : tie.Need-add-free Inv-loop μ-loop
 add-free c =
     let b = c .before .before .before in
-    omega (arith, mask-small processors (isFree (b .before .args .p)) (processors - b .loop .n) _ (b .loop .inv .0), bit-small (c .before .is-free .result))
+    omega (arith, mask-small mostProcessors (isFree (b .before .args .p)) (mostProcessors - b .loop .n) _ (b .loop .inv .0), bit-small (c .before .is-free .result))
 
 add-n : tie.Need-add-n Inv-loop μ-loop
 add-n c = search needs
@@ -54,7 +54,7 @@ loop-again c =
 
 returns : tie.Need-returns Inv-loop μ-loop
 returns c =
-    let e : c .before .loop .n ≡ processors = omega arith in
+    let e : c .before .loop .n ≡ mostProcessors = omega arith in
     rw e at (c .before .loop .inv .1)
 
 pub free-mask-spec : {M : Type 1} → statement M

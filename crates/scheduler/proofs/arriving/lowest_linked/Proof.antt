@@ -6,17 +6,17 @@ use native.Mathlib.Omega.{arith}
 use borrow.Author.Needs.{needs}
 use Rattle.search.specs.Best.{best}
 use Rattle.search.proofs.Bests.{best-turn}
-use Rattle.processors.specs.Limits.{processors}
-use Rattle.processors.specs.Words.{told}
+use Rattle.numbers.specs.Limits.{mostProcessors}
+use Rattle.processors.specs.Words.{jobsFrom}
 use Rattle.scheduler.specs.Arriving.{isUsed, linksLower, lowestLinked}
 use Rattle.scheduler.proofs.arriving.lowest_linked.Statement.{statement}
 use Rattle.scheduler.proofs.arriving.lowest_linked.Tie as tie
 
 abbrev Inv-loop : tie.InvT-loop
-Inv-loop p ranks b₀ k₀ b k = (k ≤ processors) × (b ≡ best (isUsed p) (linksLower p (told ranks [])) processors k)
+Inv-loop p ranks b₀ k₀ b k = (k ≤ mostProcessors) × (b ≡ best (isUsed p) (linksLower p (jobsFrom ranks [])) mostProcessors k)
 
 abbrev μ-loop : tie.MeasureT-loop
-μ-loop p ranks b₀ k₀ b k = processors - k
+μ-loop p ranks b₀ k₀ b k = mostProcessors - k
 
 loop-holds : tie.Need-loop-holds Inv-loop μ-loop
 unfolding best
@@ -37,7 +37,7 @@ loop-again c = (omega arith, rw (best-turn, ← c .before .before .loop .inv .1)
 returns : tie.Need-returns Inv-loop μ-loop
 unfolding lowestLinked
 returns c =
-    let e : c .before .loop .k ≡ processors = omega arith in
+    let e : c .before .loop .k ≡ mostProcessors = omega arith in
     rw e at (c .before .loop .inv .1)
 
 pub lowest-linked-spec : {M : Type 1} → statement M

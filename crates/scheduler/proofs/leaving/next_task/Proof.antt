@@ -7,8 +7,8 @@ use native.Mathlib.Omega.{arith}
 use borrow.Author.Needs.{needs}
 use Rattle.search.specs.Best.{better, best}
 use Rattle.search.proofs.Bests.{best-turn, best-past}
-use Rattle.processors.specs.Limits.{tasks}
-use Rattle.processors.specs.Words.{told, firstModes, rankOf, modeOf, isUnlinked, isHigher}
+use Rattle.numbers.specs.Limits.{mostTasks}
+use Rattle.processors.specs.Words.{jobsFrom, firstModes, rankOf, modeOf, isUnlinked, isHigher}
 use Rattle.processors.proofs.Told.{first-mode, past-mode}
 use Rattle.scheduler.specs.Leaving.{nextTask}
 use Rattle.processors.specs.declared.Processors.{Processors}
@@ -18,20 +18,20 @@ use Rattle.scheduler.proofs.leaving.next_task.Tie as tie
 module _ (p : Processors) (ranks modes : List ℕ) (n : ℕ) where
   -- the best of the tasks below t, of which the first n count
   abbrev bestBelow : ℕ → ℕ
-  bestBelow t = best (isUnlinked p (told [] (firstModes n modes))) (isHigher (told ranks [])) tasks t
+  bestBelow t = best (isUnlinked p (jobsFrom [] (firstModes n modes))) (isHigher (jobsFrom ranks [])) mostTasks t
 
   -- a turn with all modes is one with the first modes
-  turn : (t b r : ℕ) → t < n → r ≡ better (isUnlinked p (told [] modes)) (isHigher (told ranks [])) tasks t b
-      → r ≡ better (isUnlinked p (told [] (firstModes n modes))) (isHigher (told ranks [])) tasks t b
+  turn : (t b r : ℕ) → t < n → r ≡ better (isUnlinked p (jobsFrom [] modes)) (isHigher (jobsFrom ranks [])) mostTasks t b
+      → r ≡ better (isUnlinked p (jobsFrom [] (firstModes n modes))) (isHigher (jobsFrom ranks [])) mostTasks t b
   unfolding better
   turn t b r h e = rw (first-mode n [] modes t h) e
 
-  past : (t : ℕ) → n ≤ t → isUnlinked p (told [] (firstModes n modes)) t ≡ false
+  past : (t : ℕ) → n ≤ t → isUnlinked p (jobsFrom [] (firstModes n modes)) t ≡ false
   past t h = rw (past-mode n [] modes t h)
 
-  all : bestBelow (min n tasks) ≡ nextTask p (told ranks (firstModes n modes))
+  all : bestBelow (min n mostTasks) ≡ nextTask p (jobsFrom ranks (firstModes n modes))
   unfolding nextTask rankOf modeOf
-  all = sym (best-past _ _ tasks (min n tasks) tasks (omega arith) (λ k a b. past k (omega arith)))
+  all = sym (best-past _ _ mostTasks (min n mostTasks) mostTasks (omega arith) (λ k a b. past k (omega arith)))
 
 abbrev Inv-loop : tie.InvT-loop
 Inv-loop p ranks modes count n b₀ t₀ b t = (t ≤ n) × (b ≡ bestBelow p ranks modes count t)
@@ -62,7 +62,7 @@ loop-again c =
 
 returns : tie.Need-returns Inv-loop μ-loop
 returns c =
-    let e : c .before .loop .t ≡ min (c .before .before .before .args .tasks) tasks = omega (arith, c .before .before .end-of .ensures) in
+    let e : c .before .loop .t ≡ min (c .before .before .before .args .tasks) mostTasks = omega (arith, c .before .before .end-of .ensures) in
     rw e at (c .before .loop .inv .1) ∙ all _ _ _ _
 
 pub next-task-spec : {M : Type 1} → statement M

@@ -7,7 +7,7 @@ use lib.ListN.{drop, replicate}
 use borrow.Author.Needs.{needs}
 use Rattle.search.specs.Table.{table}
 use Rattle.search.proofs.Tables.{table-none, table-turn, table-all}
-use Rattle.input.specs.Limits.{mostResources}
+use Rattle.numbers.specs.Limits.{mostResources}
 use Rattle.setups.proofs.grouping.each_alone.Statement.{statement}
 use Rattle.setups.proofs.grouping.each_alone.Tie as tie
 

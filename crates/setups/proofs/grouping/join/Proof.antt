@@ -7,7 +7,7 @@ use lib.ListN.{length, getD, drop}
 use borrow.Author.Needs.{needs}
 use Rattle.search.specs.Table.{table}
 use Rattle.search.proofs.Tables.{table-none, table-turn, table-all}
-use Rattle.input.specs.Limits.{mostResources}
+use Rattle.numbers.specs.Limits.{mostResources}
 use Rattle.setups.specs.Naming.{merged}
 use Rattle.setups.proofs.Lists.{map-table}
 use Rattle.setups.proofs.grouping.join.Statement.{statement}
@@ -19,16 +19,16 @@ Inv-loop outer inner names a b next₀ r₀ next r = (r ≤ mostResources) × (n
 abbrev μ-loop : tie.MeasureT-loop
 μ-loop outer inner names a b next₀ r₀ next r = mostResources - r
 
-name-at-requires : tie.Need-name-at-requires Inv-loop μ-loop
-name-at-requires c κs = search needs
+named-at-requires : tie.Need-named-at-requires Inv-loop μ-loop
+named-at-requires c κs = search needs
 
-name-at-requires-2 : tie.Need-name-at-requires-2 Inv-loop μ-loop
-name-at-requires-2 c κs = search needs
+named-at-requires-2 : tie.Need-named-at-requires-2 Inv-loop μ-loop
+named-at-requires-2 c κs = search needs
 
 loop-holds : tie.Need-loop-holds Inv-loop μ-loop
 loop-holds c =
     let l = c .before .before .args .t1 in
-    (search needs, table-none (λ i. merged (c .before .name-at .result) (c .name-at2 .result) (getD l i 0)) l)
+    (search needs, table-none (λ i. merged (c .before .named-at .result) (c .named-at2 .result) (getD l i 0)) l)
 
 array-read-merge : tie.Need-array-read-merge Inv-loop μ-loop
 array-read-merge c = search needs
@@ -49,7 +49,7 @@ loop-again : tie.Need-loop-again Inv-loop μ-loop
 loop-again c =
     let a = c .before .before .loop in
     let l = c .before .before .before .before .before .args .t1 in
-    let f = merged (c .before .before .before .before .name-at .result) (c .before .before .before .name-at2 .result) in
+    let f = merged (c .before .before .before .before .named-at .result) (c .before .before .before .named-at2 .result) in
     (search needs, rw (a .inv .1, c .merge .ensures) (table-turn (λ i. f (getD l i 0)) l (a .r) (search needs)))
 
 returns : tie.Need-returns Inv-loop μ-loop
@@ -57,8 +57,8 @@ returns c =
     let l = c .before .before .before .before .args .t1 in
     let e : c .before .loop .r ≡ mostResources = omega arith in
     let len : length l ≡ mostResources = search needs in
-    let x = c .before .before .before .name-at in
-    let y = c .before .before .name-at2 in
+    let x = c .before .before .before .named-at in
+    let y = c .before .before .named-at2 in
     let f = merged (x .result) (y .result) in
     rw (c .before .loop .inv .1, e, ← x .ensures, ← y .ensures, map-table f l 0, len) (table-all (λ i. f (getD l i 0)) l mostResources len)
 
@@ -68,8 +68,8 @@ join-spec =
     (tie.spec
     Inv-loop
     μ-loop
-    name-at-requires
-    name-at-requires-2
+    named-at-requires
+    named-at-requires-2
     loop-holds
     array-read-merge
     merge-requires

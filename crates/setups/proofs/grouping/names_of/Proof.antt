@@ -4,7 +4,7 @@ use mathlib.Core.Path.{_≡_}
 use native.Mathlib.Omega.{arith}
 use native.Mathlib.Numerals.{add-one}
 use borrow.Author.Needs.{needs}
-use Rattle.input.specs.Limits.{mostPairs}
+use Rattle.numbers.specs.Limits.{mostPairs}
 use Rattle.setups.specs.Naming.{namesAfter, names as namesOf}
 use Rattle.setups.proofs.grouping.names_of.Statement.{statement}
 use Rattle.setups.proofs.grouping.names_of.Tie as tie

@@ -7,7 +7,8 @@ use native.Mathlib.Numerals.{add-one}
 use lib.Dec.{ltb}
 use borrow.Author.Needs.{needs}
 use Rattle.search.specs.Below.{anyBelow}
-use Rattle.input.specs.Limits.{mostResources, long}
+use Rattle.numbers.specs.Limits.{mostResources}
+use Rattle.input.specs.Kinds.{long}
 use Rattle.input.specs.Words.{kind}
 use Rattle.setups.proofs.judging.has_other_kind.Statement.{statement}
 use Rattle.setups.proofs.judging.has_other_kind.Tie as tie

@@ -8,7 +8,7 @@ use lib.Dec.{ltb}
 use borrow.Author.Needs.{needs}
 use Rattle.search.specs.Words.{_is_}
 use Rattle.search.specs.Below.{anyBelow}
-use Rattle.input.specs.Limits.{mostTasks}
+use Rattle.numbers.specs.Limits.{mostTasks}
 use Rattle.input.specs.Words.{period}
 use Rattle.setups.proofs.judging.has_zero_period.Statement.{statement}
 use Rattle.setups.proofs.judging.has_zero_period.Tie as tie

@@ -3,7 +3,7 @@ use mathlib.Core.Path.{_≡_, sym}
 use native.Mathlib.Omega.{arith}
 use lib.ListN.{length, List·getD-eq-default}
 use borrow.Author.Needs.{needs}
-use Rattle.input.specs.Limits.{mostResources}
+use Rattle.numbers.specs.Limits.{mostResources}
 use Rattle.setups.proofs.judging.kind_of.Statement.{statement}
 use Rattle.setups.proofs.judging.kind_of.Tie as tie
 

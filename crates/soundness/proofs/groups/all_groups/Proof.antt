@@ -8,13 +8,14 @@ use native.Mathlib.Numerals.{add-one}
 use lib.ListN.{length, getD, length-map, List·getD-eq-default}
 use borrow.Author.Needs.{needs}
 use Rattle.search.specs.Below.{allBelow}
-use Rattle.input.specs.Limits.{mostTasks, mostResources}
-use Rattle.protocol.specs.Words.{nobody, absent, noTask, task, stand, asked}
+use Rattle.numbers.specs.Limits.{mostTasks, mostResources, nobody}
+use Rattle.protocol.specs.Words.{absent, task, stand, asked}
+use Rattle.protocol.specs.Records.{noTask}
 use Rattle.protocol.specs.Sound.{groupSound}
 use Rattle.protocol.specs.declared.Task.{Task}
 use Rattle.protocol.specs.declared.Group.{Group}
 use Rattle.protocol.specs.declared.State.{State}
-use Rattle.tables.proofs.Reading.{task-read, group-read}
+use Rattle.states.proofs.Tables.{task-read, group-read}
 use Rattle.soundness.proofs.Lengths.{tasks-long, groups-long}
 use Rattle.soundness.proofs.Tabled.{stand-in, asked-in}
 use Rattle.soundness.proofs.Within.{depth-within}
@@ -26,10 +27,10 @@ abbrev holderRead : State → ℕ → ℕ
 holderRead s g = let none : Group = record { holder = 0; queue = record { tasks = []; len = 0 } } in getD (s .groups) g none .holder
 
 abbrev Inv-loop : tie.InvT-loop
-Inv-loop named state tasks stands asked ok₀ g₀ ok g = (g ≤ mostResources) × (ok ≡ allBelow g (groupSound (state .setup) state))
+Inv-loop naming state tasks stands asked ok₀ g₀ ok g = (g ≤ mostResources) × (ok ≡ allBelow g (groupSound (state .setup) state))
 
 abbrev μ-loop : tie.MeasureT-loop
-μ-loop named state tasks stands asked ok₀ g₀ ok g = mostResources - g
+μ-loop naming state tasks stands asked ok₀ g₀ ok g = mostResources - g
 
 stands-of-requires : tie.Need-stands-of-requires Inv-loop μ-loop
 stands-of-requires c κs = search needs

@@ -10,12 +10,13 @@ use borrow.Author.Needs.{needs}
 use Rattle.search.specs.Words.{_is_}
 use Rattle.search.specs.Below.{allBelow}
 use Rattle.queue.specs.Waiting.{waiter}
-use Rattle.protocol.specs.Words.{nobody, absent, spinning}
+use Rattle.numbers.specs.Limits.{nothing}
+use Rattle.protocol.specs.Words.{absent, spinning}
 use Rattle.soundness.proofs.groups.all_wait_here.Statement.{statement}
 use Rattle.soundness.proofs.groups.all_wait_here.Tie as tie
 
 abbrev Inv-loop : tie.InvT-loop
-Inv-loop stands asked groups queue g ok₀ i₀ i-end ok i = (i ≤ queue .len) × (ok ≡ allBelow i (λ i. leb spinning (getD stands (waiter queue i) absent) && getD groups (getD asked (waiter queue i) nobody) nobody is g))
+Inv-loop stands asked groups queue g ok₀ i₀ i-end ok i = (i ≤ queue .len) × (ok ≡ allBelow i (λ i. leb spinning (getD stands (waiter queue i) absent) && getD groups (getD asked (waiter queue i) nothing) nothing is g))
 
 abbrev μ-loop : tie.MeasureT-loop
 μ-loop stands asked groups queue g ok₀ i₀ i-end ok i = queue .len - i
@@ -33,8 +34,8 @@ stand-at-requires c κs = search needs
 number-at-requires : tie.Need-number-at-requires Inv-loop μ-loop
 number-at-requires c κs = search needs
 
-number-at-requires-2 : tie.Need-number-at-requires-2 Inv-loop μ-loop
-number-at-requires-2 c κs = search needs
+named-at-requires : tie.Need-named-at-requires Inv-loop μ-loop
+named-at-requires c κs = search needs
 
 add-i : tie.Need-add-i Inv-loop μ-loop
 add-i c = search needs
@@ -44,7 +45,7 @@ loop-less c = search needs
 
 loop-again : tie.Need-loop-again Inv-loop μ-loop
 unfolding allBelow
-loop-again c = (search needs, rw (add-one, c .before .before .before .before .before .loop .inv .1, c .number-at2 .ensures, c .before .number-at .ensures, c .before .before .stand-at .ensures, c .before .before .before .waiter .ensures))
+loop-again c = (search needs, rw (add-one, c .before .before .before .before .before .loop .inv .1, c .named-at .ensures, c .before .number-at .ensures, c .before .before .stand-at .ensures, c .before .before .before .waiter .ensures))
 
 returns : tie.Need-returns Inv-loop μ-loop
 returns c = let e : c .before .loop .i ≡ c .before .before .args .queue .len = omega arith in
@@ -60,7 +61,7 @@ all-wait-here-spec =
     waiter-requires
     stand-at-requires
     number-at-requires
-    number-at-requires-2
+    named-at-requires
     add-i
     loop-less
     loop-again

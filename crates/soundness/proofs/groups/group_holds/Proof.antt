@@ -26,7 +26,7 @@ all-in-place-requires c κs = tidy-len (c .before .before .before .before .befor
 returns : tie.Need-returns
 unfolding groupSound depth request len groupOf holder waiter
 returns c =
-    λ s here held naming standing asking.
+    λ s here held named standing asking.
     let tidy : isTidy (group s (c .before .before .before .before .before .before .before .before .args .g) .queue) ≡ true = subst (λ (x : Group). isTidy (x .queue) ≡ true) here (sym (c .before .before .before .before .before .is-tidy .ensures) ∙ c .before .before .before .before .if1 .taken) in
     rw (
       c .before .all-in-place .ensures,
@@ -34,7 +34,7 @@ returns c =
       c .before .before .before .some-in .ensures,
       held,
       here,
-      naming,
+      named,
       tidy,
       and-true,
       Bool·not-not,
@@ -43,7 +43,7 @@ returns c =
 returns-2 : tie.Need-returns-2
 unfolding groupSound
 returns-2 c =
-    λ s here held naming standing asking.
+    λ s here held named standing asking.
     let untidy : isTidy (group s (c .before .before .before .before .args .g) .queue) ≡ false = subst (λ (x : Group). isTidy (x .queue) ≡ false) here (sym (c .before .is-tidy .ensures) ∙ c .if1 .left) in
     rw (untidy, and-false)
 

@@ -7,12 +7,12 @@ use lib.ListN.{getD}
 use borrow.Author.Needs.{needs}
 use Rattle.search.specs.Words.{_is_}
 use Rattle.search.specs.Below.{anyBelow}
-use Rattle.protocol.specs.Words.{nobody}
+use Rattle.numbers.specs.Limits.{nothing}
 use Rattle.soundness.proofs.groups.some_in.Statement.{statement}
 use Rattle.soundness.proofs.groups.some_in.Tie as tie
 
 abbrev Inv-loop : tie.InvT-loop
-Inv-loop groups requests depth g some₀ i₀ some i = (i ≤ depth) × (some ≡ anyBelow i (λ i. getD groups (getD requests i nobody) nobody is g))
+Inv-loop groups requests depth g some₀ i₀ some i = (i ≤ depth) × (some ≡ anyBelow i (λ i. getD groups (getD requests i nothing) nothing is g))
 
 abbrev μ-loop : tie.MeasureT-loop
 μ-loop groups requests depth g some₀ i₀ some i = depth - i
@@ -24,8 +24,8 @@ loop-holds c = search needs
 request-at-requires : tie.Need-request-at-requires Inv-loop μ-loop
 request-at-requires c κs = search needs
 
-number-at-requires : tie.Need-number-at-requires Inv-loop μ-loop
-number-at-requires c κs = search needs
+named-at-requires : tie.Need-named-at-requires Inv-loop μ-loop
+named-at-requires c κs = search needs
 
 add-i : tie.Need-add-i Inv-loop μ-loop
 add-i c = search needs
@@ -35,7 +35,7 @@ loop-less c = search needs
 
 loop-again : tie.Need-loop-again Inv-loop μ-loop
 unfolding anyBelow
-loop-again c = (search needs, rw (add-one, c .before .before .before .loop .inv .1, c .number-at .ensures, c .before .request-at .ensures))
+loop-again c = (search needs, rw (add-one, c .before .before .before .loop .inv .1, c .named-at .ensures, c .before .request-at .ensures))
 
 returns : tie.Need-returns Inv-loop μ-loop
 returns c = let e : c .before .loop .i ≡ c .before .before .args .depth = omega arith in
@@ -49,7 +49,7 @@ some-in-spec =
     μ-loop
     loop-holds
     request-at-requires
-    number-at-requires
+    named-at-requires
     add-i
     loop-less
     loop-again

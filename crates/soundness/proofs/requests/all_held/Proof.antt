@@ -9,12 +9,12 @@ use lib.ListN.{getD}
 use borrow.Author.Needs.{needs}
 use Rattle.search.specs.Words.{_is_}
 use Rattle.search.specs.Below.{allBelow}
-use Rattle.protocol.specs.Words.{nobody}
+use Rattle.numbers.specs.Limits.{nobody, nothing}
 use Rattle.soundness.proofs.requests.all_held.Statement.{statement}
 use Rattle.soundness.proofs.requests.all_held.Tie as tie
 
 abbrev Inv-loop : tie.InvT-loop
-Inv-loop holders groups requests depth resources t ok₀ i₀ ok i = (i ≤ depth) × (ok ≡ allBelow i (λ i. ltb (getD requests i nobody) resources && getD holders (getD groups (getD requests i nobody) nobody) nobody is t))
+Inv-loop holders groups requests depth resources t ok₀ i₀ ok i = (i ≤ depth) × (ok ≡ allBelow i (λ i. ltb (getD requests i nothing) resources && getD holders (getD groups (getD requests i nothing) nothing) nobody is t))
 
 abbrev μ-loop : tie.MeasureT-loop
 μ-loop holders groups requests depth resources t ok₀ i₀ ok i = depth - i
@@ -29,11 +29,11 @@ request-at-requires c κs = search needs
 cast-ok : tie.Need-cast-ok Inv-loop μ-loop
 cast-ok c = search needs
 
-number-at-requires : tie.Need-number-at-requires Inv-loop μ-loop
-number-at-requires c κs = search needs
+named-at-requires : tie.Need-named-at-requires Inv-loop μ-loop
+named-at-requires c κs = search needs
 
-number-at-requires-2 : tie.Need-number-at-requires-2 Inv-loop μ-loop
-number-at-requires-2 c κs = search needs
+named-at-requires-2 : tie.Need-named-at-requires-2 Inv-loop μ-loop
+named-at-requires-2 c κs = search needs
 
 add-i : tie.Need-add-i Inv-loop μ-loop
 add-i c = search needs
@@ -43,7 +43,7 @@ loop-less c = search needs
 
 loop-again : tie.Need-loop-again Inv-loop μ-loop
 unfolding allBelow
-loop-again c = (search needs, rw (add-one, c .before .before .before .before .loop .inv .1, c .number-at2 .ensures, c .before .number-at .ensures, c .before .before .request-at .ensures))
+loop-again c = (search needs, rw (add-one, c .before .before .before .before .loop .inv .1, c .named-at2 .ensures, c .before .named-at .ensures, c .before .before .request-at .ensures))
 
 returns : tie.Need-returns Inv-loop μ-loop
 returns c = let e : c .before .loop .i ≡ c .before .before .args .depth = omega arith in
@@ -58,8 +58,8 @@ all-held-spec =
     loop-holds
     request-at-requires
     cast-ok
-    number-at-requires
-    number-at-requires-2
+    named-at-requires
+    named-at-requires-2
     add-i
     loop-less
     loop-again

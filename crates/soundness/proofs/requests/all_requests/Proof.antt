@@ -6,10 +6,10 @@ use native.Mathlib.Numerals.{add-one}
 use lib.ListN.{length, getD}
 use borrow.Author.Needs.{needs}
 use Rattle.search.specs.Below.{allBelow}
-use Rattle.input.specs.Limits.{mostTasks, mostResources}
-use Rattle.protocol.specs.Words.{nobody, holder}
+use Rattle.numbers.specs.Limits.{mostTasks, mostResources, nobody}
+use Rattle.protocol.specs.Words.{holder}
 use Rattle.protocol.specs.Sound.{requestsSound}
-use Rattle.tables.proofs.Reading.{task-read}
+use Rattle.states.proofs.Tables.{task-read}
 use Rattle.soundness.proofs.Lengths.{tasks-long, groups-long}
 use Rattle.soundness.proofs.Tabled.{holder-in}
 use Rattle.soundness.proofs.requests.all_requests.Statement.{statement}

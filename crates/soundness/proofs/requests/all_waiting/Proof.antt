@@ -8,13 +8,14 @@ use native.Mathlib.Numerals.{add-one}
 use lib.ListN.{length, getD, length-map, List·getD-eq-default}
 use borrow.Author.Needs.{needs}
 use Rattle.search.specs.Below.{allBelow}
-use Rattle.input.specs.Limits.{mostTasks, mostResources}
+use Rattle.numbers.specs.Limits.{mostTasks, mostResources, nobody}
 use Rattle.setups.specs.Naming.{groupOf}
-use Rattle.protocol.specs.Words.{nobody, standingNo, askedOf, noGroup, group, stand, asked}
+use Rattle.protocol.specs.Words.{standingNo, askedOf, group, stand, asked}
+use Rattle.protocol.specs.Records.{noGroup}
 use Rattle.protocol.specs.Sound.{waitingSound}
 use Rattle.protocol.specs.declared.Task.{Task}
 use Rattle.protocol.specs.declared.Group.{Group}
-use Rattle.tables.proofs.Reading.{task-read, group-read}
+use Rattle.states.proofs.Tables.{task-read, group-read}
 use Rattle.soundness.proofs.Lengths.{tasks-long, groups-long}
 use Rattle.soundness.proofs.requests.all_waiting.Statement.{statement}
 use Rattle.soundness.proofs.requests.all_waiting.Tie as tie
@@ -41,8 +42,8 @@ stand-of-requires c κs = search needs
 asked-of-requires : tie.Need-asked-of-requires Inv-loop μ-loop
 asked-of-requires c κs = search needs
 
-number-at-requires : tie.Need-number-at-requires Inv-loop μ-loop
-number-at-requires c κs = search needs
+named-at-requires : tie.Need-named-at-requires Inv-loop μ-loop
+named-at-requires c κs = search needs
 
 cast-g : tie.Need-cast-g Inv-loop μ-loop
 cast-g c = search needs
@@ -79,11 +80,11 @@ loop-again c =
     let read = task-read (s .tasks) (a .t) (omega arith) in
     let standing : c .before .before .before .before .before .stand-of .result ≡ stand s (a .t) = c .before .before .before .before .before .stand-of .ensures ∙ ap (λ (x : Task). standingNo (x .standing)) read in
     let asking : c .before .before .before .before .asked-of .result ≡ asked s (a .t) = c .before .before .before .before .asked-of .ensures ∙ ap (λ (x : Task). askedOf (x .standing)) read in
-    let named : c .before .before .before .number-at .result ≡ groupOf (s .setup) (c .before .before .before .before .asked-of .result) = c .before .before .before .number-at .ensures ∙ ap (λ (l : List ℕ). getD l (c .before .before .before .before .asked-of .result) nobody) (start .pre) in
+    let naming : c .before .before .before .named-at .result ≡ groupOf (s .setup) (c .before .before .before .before .asked-of .result) = c .before .before .before .named-at .ensures ∙ ap (λ (l : List ℕ). getD l (c .before .before .before .before .asked-of .result) nobody) (start .pre) in
     let there : c .before .before .if1 .group ≡ group s (groupOf (s .setup) (c .before .before .before .before .asked-of .result)) =
     ⊎-elim
-    (λ w. w .2 ∙ group-read (s .groups) (c .before .before .before .number-at .result) (omega arith) ∙ ap (group s) named)
-    (λ w. w .2 ∙ w .1 .ensures ∙ sym (List·getD-eq-default (s .groups) noGroup (omega arith)) ∙ ap (group s) named)
+    (λ w. w .2 ∙ group-read (s .groups) (c .before .before .before .named-at .result) (omega arith) ∙ ap (group s) naming)
+    (λ w. w .2 ∙ w .1 .ensures ∙ sym (List·getD-eq-default (s .groups) noGroup (omega arith)) ∙ ap (group s) naming)
     (c .before .before .if1 .came) in
     (search needs, rw (add-one, a .inv .1, c .waiting-holds .ensures s (task-read (s .tasks) (a .t) (omega arith)) standing asking (ap (λ (x : Group). x .queue) there) refl refl))
 
@@ -103,7 +104,7 @@ all-waiting-spec =
     element-copy-out-task
     stand-of-requires
     asked-of-requires
-    number-at-requires
+    named-at-requires
     cast-g
     mul-group
     element-copy-out-group

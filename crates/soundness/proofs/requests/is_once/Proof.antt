@@ -7,12 +7,12 @@ use lib.ListN.{getD}
 use borrow.Author.Needs.{needs}
 use Rattle.search.specs.Words.{_is_, _implies_}
 use Rattle.search.specs.Below.{allBelow}
-use Rattle.protocol.specs.Words.{nobody}
+use Rattle.numbers.specs.Limits.{nothing}
 use Rattle.soundness.proofs.requests.is_once.Statement.{statement}
 use Rattle.soundness.proofs.requests.is_once.Tie as tie
 
 abbrev Inv-loop : tie.InvT-loop
-Inv-loop requests depth i r ok₀ k₀ ok k = (k ≤ depth) × (ok ≡ allBelow k (λ k. getD requests i nobody is getD requests k nobody implies i is k))
+Inv-loop requests depth i r ok₀ k₀ ok k = (k ≤ depth) × (ok ≡ allBelow k (λ k. getD requests i nothing is getD requests k nothing implies i is k))
 
 abbrev μ-loop : tie.MeasureT-loop
 μ-loop requests depth i r ok₀ k₀ ok k = depth - k

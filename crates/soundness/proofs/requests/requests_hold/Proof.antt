@@ -4,7 +4,8 @@ use mathlib.Core.Path.{subst}
 use borrow.Author.Needs.{needs}
 use borrow.Author.Tests.{le-leb, lt-leb}
 use Rattle.setups.specs.Naming.{groupOf}
-use Rattle.protocol.specs.Words.{mostRequests, task, stand, depth, request}
+use Rattle.numbers.specs.Limits.{mostRequests}
+use Rattle.protocol.specs.Words.{task, stand, depth, request}
 use Rattle.protocol.specs.Sound.{requestsSound}
 use Rattle.protocol.specs.declared.Task.{Task}
 use Rattle.soundness.proofs.requests.requests_hold.Statement.{statement}
@@ -28,7 +29,7 @@ stand-of-requires c κs = search needs
 returns : tie.Need-returns
 unfolding requestsSound stand depth request groupOf
 returns c =
-    λ s recorded kinded counted naming held.
+    λ s recorded kinded counted named held.
     rw (
       c .stand-of .ensures,
       c .before .all-together .ensures,
@@ -38,14 +39,14 @@ returns c =
       recorded,
       kinded,
       counted,
-      naming,
+      named,
       le-leb (task s (c .before .before .before .before .before .before .before .args .t) .depth) mostRequests (subst (λ (x : Task). x .depth ≤ mostRequests) recorded (c .before .before .before .before .before .if1 .taken)),
     ) (simp held)
 
 returns-2 : tie.Need-returns-2
 unfolding requestsSound depth
 returns-2 c =
-    λ s recorded kinded counted naming held.
+    λ s recorded kinded counted named held.
     rw (lt-leb (task s (c .before .before .args .t) .depth) mostRequests (subst (λ (x : Task). mostRequests < x .depth) recorded (c .if1 .left)))
 
 pub requests-hold-spec : {M : Type 1} → statement M

@@ -5,9 +5,9 @@ use native.Mathlib.Omega.{arith}
 use native.Mathlib.Numerals.{add-one}
 use borrow.Author.Needs.{needs}
 use Rattle.search.specs.Below.{allBelow}
-use Rattle.input.specs.Limits.{mostTasks}
+use Rattle.numbers.specs.Limits.{mostTasks}
 use Rattle.protocol.specs.Sound.{emptySound}
-use Rattle.tables.proofs.Reading.{task-read}
+use Rattle.states.proofs.Tables.{task-read}
 use Rattle.soundness.proofs.Lengths.{tasks-long}
 use Rattle.soundness.proofs.tasks.all_empty.Statement.{statement}
 use Rattle.soundness.proofs.tasks.all_empty.Tie as tie

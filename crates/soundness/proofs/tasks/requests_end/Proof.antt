@@ -8,12 +8,12 @@ use lib.ListN.{getD}
 use borrow.Author.Needs.{needs}
 use Rattle.search.specs.Words.{_is_, _implies_}
 use Rattle.search.specs.Below.{allBelow}
-use Rattle.protocol.specs.Words.{mostRequests, nobody}
+use Rattle.numbers.specs.Limits.{mostRequests, nothing}
 use Rattle.soundness.proofs.tasks.requests_end.Statement.{statement}
 use Rattle.soundness.proofs.tasks.requests_end.Tie as tie
 
 abbrev Inv-loop : tie.InvT-loop
-Inv-loop requests depth ok₀ i₀ ok i = (i ≤ mostRequests) × (ok ≡ allBelow i (λ i. leb depth i implies getD requests i nobody is nobody))
+Inv-loop requests depth ok₀ i₀ ok i = (i ≤ mostRequests) × (ok ≡ allBelow i (λ i. leb depth i implies getD requests i nothing is nothing))
 
 abbrev μ-loop : tie.MeasureT-loop
 μ-loop requests depth ok₀ i₀ ok i = mostRequests - i

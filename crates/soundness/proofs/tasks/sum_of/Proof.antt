@@ -1,92 +1,81 @@
--- Five numbers of 32 bits sum within 64. Assumes nothing.
-use Prim.Native.Nat.{ℕ, _<_, _+_, suc}
+-- The loop's invariant: what is summed and what is left sum to all; a number of 32 bits a turn stays within 64. Assumes
+-- nothing.
+use Prim.Native.Nat.{ℕ, _+_, _-_, _*_, _≤_, _<_}
 use mathlib.Core.Path.{_≡_, ap}
 use mathlib.Core.List.{List}
 use native.Mathlib.Omega.{arith}
+use native.Mathlib.Numerals.{add-one}
 use lib.ListN.{length, getD, drop, drop-of-length-le}
 use lib.Seq.{drop-cons}
 use mir.Syntax.{w32}
 use mir.Val.{Fits}
 use borrow.Author.Needs.{needs}
-use Rattle.protocol.specs.Words.{totalCount, sum}
+use Rattle.protocol.specs.Records.{totalCount}
+use Rattle.protocol.specs.Words.{lastClock, sum}
 use Rattle.soundness.proofs.tasks.sum_of.Statement.{statement}
 use Rattle.soundness.proofs.tasks.sum_of.Tie as tie
 
--- the sum of five, one by one
-five : (l : List ℕ) → length l ≡ totalCount → getD l 0 0 + getD l 1 0 + getD l 2 0 + getD l 3 0 + getD l 4 0 ≡ sum l
-five l e =
-    let at : (i : ℕ) → i < length l → sum (drop i l) ≡ getD l i 0 + sum (drop (suc i) l) = λ i h. ap sum (drop-cons l i 0 h) in
-    omega (arith, at 0 (omega arith), at 1 (omega arith), at 2 (omega arith), at 3 (omega arith), at 4 (omega arith), ap sum (drop-of-length-le l {i = 5} (omega arith)))
+-- one number more
+turn : (l : List ℕ) (i : ℕ) → i < length l → sum (drop i l) ≡ getD l i 0 + sum (drop (i + 1) l)
+turn l i h = rw add-one (ap sum (drop-cons l i 0 h))
 
-array-read-early : tie.Need-array-read-early
-array-read-early c = search needs
+abbrev Inv-loop : tie.InvT-loop
+Inv-loop totals all₀ i₀ all i = (i ≤ totalCount) × (all ≤ lastClock * i) × (all + sum (drop i totals) ≡ sum totals)
 
-cast-early : tie.Need-cast-early
-cast-early c = search needs
+abbrev μ-loop : tie.MeasureT-loop
+μ-loop totals all₀ i₀ all i = totalCount - i
 
-array-read-early-2 : tie.Need-array-read-early-2
-array-read-early-2 c = search needs
+loop-holds : tie.Need-loop-holds Inv-loop μ-loop
+loop-holds c = search needs
 
-cast-early-2 : tie.Need-cast-early-2
-cast-early-2 c = search needs
+mul-all : tie.Need-mul-all Inv-loop μ-loop
+mul-all c = search needs
 
-add-early : tie.Need-add-early
-add-early c =
-    let x : (i : ℕ) → Fits w32 (getD (c .args .t1) i 0) = λ i. search needs in
-    omega (arith, x 0 .fits, x 1 .fits)
+array-read-all : tie.Need-array-read-all Inv-loop μ-loop
+array-read-all c = search needs
 
-array-read-result : tie.Need-array-read-result
-array-read-result c = search needs
+cast-all : tie.Need-cast-all Inv-loop μ-loop
+cast-all c = search needs
 
-cast-result : tie.Need-cast-result
-cast-result c = search needs
+add-all : tie.Need-add-all Inv-loop μ-loop
+add-all c =
+    let o = c .before .loop in
+    let x : Fits w32 (getD (c .before .before .args .t1) (o .i) 0) = search needs in
+    omega (arith, x .fits, o .inv .1)
 
-add-result : tie.Need-add-result
-add-result c =
-    let x : (i : ℕ) → Fits w32 (getD (c .args .t1) i 0) = λ i. search needs in
-    omega (arith, x 0 .fits, x 1 .fits, x 2 .fits)
+add-i : tie.Need-add-i Inv-loop μ-loop
+add-i c = search needs
 
-array-read-result-2 : tie.Need-array-read-result-2
-array-read-result-2 c = search needs
+loop-less : tie.Need-loop-less Inv-loop μ-loop
+loop-less c = search needs
 
-cast-result-2 : tie.Need-cast-result-2
-cast-result-2 c = search needs
+loop-again : tie.Need-loop-again Inv-loop μ-loop
+loop-again c =
+    let o = c .before .loop in
+    let a = c .before .before .args .t1 in
+    let x : Fits w32 (getD a (o .i) 0) = search needs in
+    let size : length a ≡ totalCount = search needs in
+    (omega arith, omega (arith, x .fits, o .inv .1), omega (arith, o .inv .2, turn a (o .i) (omega arith)))
 
-add-result-2 : tie.Need-add-result-2
-add-result-2 c =
-    let x : (i : ℕ) → Fits w32 (getD (c .args .t1) i 0) = λ i. search needs in
-    omega (arith, x 0 .fits, x 1 .fits, x 2 .fits, x 3 .fits)
-
-array-read-result-3 : tie.Need-array-read-result-3
-array-read-result-3 c = search needs
-
-cast-result-3 : tie.Need-cast-result-3
-cast-result-3 c = search needs
-
-add-result-3 : tie.Need-add-result-3
-add-result-3 c =
-    let x : (i : ℕ) → Fits w32 (getD (c .args .t1) i 0) = λ i. search needs in
-    omega (arith, x 0 .fits, x 1 .fits, x 2 .fits, x 3 .fits, x 4 .fits)
-
-returns : tie.Need-returns
-returns c = five (c .args .t1) (search needs)
+returns : tie.Need-returns Inv-loop μ-loop
+returns c =
+    let o = c .before .loop in
+    let a = c .before .before .args .t1 in
+    let size : length a ≡ totalCount = search needs in
+    omega (arith, o .inv .2, ap sum (drop-of-length-le a {i = o .i} (omega arith)))
 
 pub sum-of-spec : {M : Type 1} → statement M
 sum-of-spec =
     tie.close
     (tie.spec
-    array-read-early
-    cast-early
-    array-read-early-2
-    cast-early-2
-    add-early
-    array-read-result
-    cast-result
-    add-result
-    array-read-result-2
-    cast-result-2
-    add-result-2
-    array-read-result-3
-    cast-result-3
-    add-result-3
+    Inv-loop
+    μ-loop
+    loop-holds
+    mul-all
+    array-read-all
+    cast-all
+    add-all
+    add-i
+    loop-less
+    loop-again
     returns)

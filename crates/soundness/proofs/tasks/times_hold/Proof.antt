@@ -8,12 +8,6 @@ use Rattle.soundness.proofs.tasks.times_hold.Tie as tie
 stand-of-requires : tie.Need-stand-of-requires
 stand-of-requires c κs = search needs
 
-cast-due : tie.Need-cast-due
-cast-due c = search needs
-
-add-due : tie.Need-add-due
-add-due c = search needs
-
 sum-of-requires : tie.Need-sum-of-requires
 sum-of-requires c κs = search needs
 
@@ -22,9 +16,7 @@ elapsed-requires c κs = search needs
 
 returns : tie.Need-returns
 unfolding timesSound stand deadline
-returns c = λ s t recorded per begun timed. rw (c .elapsed .ensures, c .before .sum-of .ensures, c .before .before .before .before .before .before .before .before .before .stand-of .ensures, Bool·not-not, recorded, per, begun, timed)
+returns c = λ s t recorded per begun timed. rw ((c .elapsed) .ensures, (c .before .sum-of) .ensures, (c .before .before .before .before .before .before .before .before .stand-of) .ensures, Bool·not-not, per, recorded, begun, timed)
 
 pub times-hold-spec : {M : Type 1} → statement M
-times-hold-spec =
-    tie.close
-    (tie.spec stand-of-requires cast-due add-due sum-of-requires elapsed-requires returns)
+times-hold-spec = tie.close (tie.spec stand-of-requires sum-of-requires elapsed-requires returns)

@@ -4,8 +4,8 @@ use mathlib.Core.Bool.{Bool, true, false, _&&_, and-false}
 use borrow.Author.Needs.{needs}
 use Rattle.search.specs.Words.{_is_}
 use Rattle.search.specs.Below.{allBelow}
-use Rattle.placement.specs.PlacedTest.{isPlaced}
-use Rattle.input.specs.Limits.{mostTasks, mostResources}
+use Rattle.scheduler.specs.PlacedTest.{isPlaced}
+use Rattle.numbers.specs.Limits.{mostTasks, mostResources}
 use Rattle.protocol.specs.Sound.{requestsSound, waitingSound, groupSound, emptySound, sound}
 use Rattle.protocol.specs.Ranks.{jobs}
 use Rattle.protocol.specs.declared.State.{State}

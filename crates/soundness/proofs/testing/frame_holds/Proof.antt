@@ -8,8 +8,8 @@ use Rattle.protocol.specs.Words.{lastClock}
 use Rattle.soundness.proofs.testing.frame_holds.Statement.{statement}
 use Rattle.soundness.proofs.testing.frame_holds.Tie as tie
 
-judge-requires : tie.Need-judge-requires
-judge-requires c κs = search needs
+judge-setup-requires : tie.Need-judge-setup-requires
+judge-setup-requires c κs = search needs
 
 is-clear-requires : tie.Need-is-clear-requires
 is-clear-requires c κs = search needs
@@ -21,7 +21,7 @@ returns : tie.Need-returns
 unfolding clockSound
 returns c =
     let clock = c .before .before .before .before .before .before .args .state .clock in
-    rw (le-leb clock lastClock (search needs), and-true, c .all-times .ensures, c .before .before .before .is-clear .ensures, c .before .before .before .before .judge .ensures)
+    rw (le-leb clock lastClock (search needs), and-true, c .all-times .ensures, c .before .before .before .is-clear .ensures, c .before .before .before .before .judge-setup .ensures)
 
 pub frame-holds-spec : {M : Type 1} → statement M
-frame-holds-spec = tie.close (tie.spec judge-requires is-clear-requires all-times-requires returns)
+frame-holds-spec = tie.close (tie.spec judge-setup-requires is-clear-requires all-times-requires returns)

@@ -4,8 +4,8 @@ use Rattle.protocol.specs.Events.{begin as beginRule}
 use Rattle.states.proofs.beginning.begin.Statement.{statement}
 use Rattle.states.proofs.beginning.begin.Tie as tie
 
-judge-requires : tie.Need-judge-requires
-judge-requires c κs = search needs
+judge-setup-requires : tie.Need-judge-setup-requires
+judge-setup-requires c κs = search needs
 
 clear-requires : tie.Need-clear-requires
 clear-requires c κs = search needs
@@ -18,17 +18,17 @@ empty-requires c κs = search needs
 
 returns : tie.Need-returns
 unfolding beginRule
-returns c = rw (c .fresh .ensures, c .before .clear .ensures, ← c .before .before .before .judge .ensures, c .before .before .if1 .taken)
+returns c = rw (c .fresh .ensures, c .before .clear .ensures, ← c .before .before .before .judge-setup .ensures, c .before .before .if1 .taken)
 
 returns-2 : tie.Need-returns-2
 unfolding beginRule
-returns-2 c = rw (c .empty .ensures, ← c .before .before .judge .ensures, ne-eqb _ _ (c .before .if1 .left))
+returns-2 c = rw (c .empty .ensures, ← c .before .before .judge-setup .ensures, ne-eqb _ _ (c .before .if1 .left))
 
 pub begin-spec : {M : Type 1} → statement M
 begin-spec =
     tie.close
     (tie.spec
-    judge-requires
+    judge-setup-requires
     clear-requires
     fresh-requires
     empty-requires

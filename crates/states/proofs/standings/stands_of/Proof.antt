@@ -7,9 +7,10 @@ use lib.ListN.{getD, drop, replicate}
 use borrow.Author.Needs.{needs}
 use Rattle.search.specs.Table.{table}
 use Rattle.search.proofs.Tables.{table-none, table-turn, table-all}
-use Rattle.input.specs.Limits.{mostTasks}
-use Rattle.protocol.specs.Words.{standingNo, noTask}
-use Rattle.tables.proofs.Reading.{task-read}
+use Rattle.numbers.specs.Limits.{mostTasks}
+use Rattle.protocol.specs.Words.{standingNo}
+use Rattle.protocol.specs.Records.{noTask}
+use Rattle.states.proofs.Tables.{task-read}
 use Rattle.states.proofs.standings.stands_of.Statement.{statement}
 use Rattle.states.proofs.standings.stands_of.Tie as tie
 

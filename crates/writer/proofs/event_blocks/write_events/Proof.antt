@@ -2,7 +2,7 @@
 use borrow.Author.Needs.{needs}
 use native.Mathlib.Omega.{arith}
 use mathlib.Core.Path.{_≡_}
-use Rattle.search.specs.Rows.{firstOf}
+use Rattle.numbers.specs.Rows.{firstOf}
 use Rattle.writer.specs.Written.{lentRows}
 use Rattle.writer.specs.EventBlocks.{eventRows, blockOfEvents}
 use Rattle.writer.proofs.Answers.{events-refused, events-done, events-lent, events-counted}

@@ -1,0 +1,139 @@
+// The lines that need no state.
+use crate::Line;
+use crate::writing::put_number;
+use crate::writing::put_numbered;
+use crate::writing::put_task;
+use crate::writing::put_text;
+use numbers::Refusal;
+use processors::Processors;
+use protocol::Task;
+ghost use mathlib.Core.Path.{_≡_};
+ghost use Prim.Native.Nat.{_+_, _*_, _≤_, min};
+ghost use lib.ListN.{length};
+ghost use Rattle.numbers.specs.Limits.{mostProcessors};
+ghost use Rattle.protocol.specs.Records.{totalCount};
+ghost use Rattle.lines.specs.Buffers.{Put, placesText, placeWidth, totalWidth, countsLine, placesLine, totalsLine, blockLine, setupLine};
+ghost use Rattle.lines.specs.Texts.{placeText, totalsText};
+
+// What is returned in place of a line.
+pub fn refused(number: u8) -> Line
+    ensures { λ r. ⌜ r ≡ record { number = number; len = 0 } ⌝ }
+{
+    Line { number, len: 0 }
+}
+
+// The first line: the counts of processors and tasks, and start.
+pub fn counts_line(m: usize, n: usize, start: u32, out: &mut [u8]) -> Line
+    ensures { λ r. ⌜ (r, now (out .exit)) ≡ countsLine (now (out .entry)) m n start ⌝ }
+{
+    if out.len() < Line::LIMIT {
+        return refused(Refusal::BUFFER_SHORT);
+    }
+    let counted = put_numbered(out, 0, b"processors ", m as u64);
+    let listed = put_numbered(out, counted, b" tasks ", n as u64);
+    let begun = put_numbered(out, listed, b" start ", start as u64);
+    let len = put_text(out, begun, b"\n");
+    Line { number: 0, len }
+}
+
+// Linked/running task on a processor.
+fn put_place(out: &mut [u8], at: usize, linked: u8, running: u8) -> usize
+    requires { ⌜ at + length (placeText linked running) ≤ length (now out) ⌝ }
+    ensures { λ r. ⌜ Put (now (out .entry)) at (placeText linked running) r (now (out .exit)) ⌝ }
+{
+    let spaced = put_text(out, at, b" ");
+    let named = put_task(out, spaced, linked);
+    let parted = put_text(out, named, b"/");
+    put_task(out, parted, running)
+}
+
+// On the first `count` processors.
+fn put_places(out: &mut [u8], from: usize, snapshot: &[u8], count: usize) -> usize
+    requires { ⌜ (count ≤ mostProcessors) × (from + placeWidth * count ≤ length (now out)) ⌝ }
+    ensures { λ r. ⌜ Put (now (out .entry)) from (placesText (now (snapshot .entry)) count) r (now (out .exit)) × (r ≤ from + placeWidth * count) ⌝ }
+{
+    let mut at = from;
+    for k in 0..count {
+        at = put_place(
+            out,
+            at,
+            input::byte_at(snapshot, 2 * k + 1),
+            input::byte_at(snapshot, 2 * k + 2),
+        );
+    }
+    at
+}
+
+// No more processors than a state can have.
+fn shown(count: usize) -> usize
+    ensures { λ r. ⌜ r ≡ min count mostProcessors ⌝ }
+{
+    if count < Processors::LIMIT {
+        count
+    } else {
+        Processors::LIMIT
+    }
+}
+
+// An event's line: its number, and the snapshot after it.
+pub fn places_line(number: u64, count: usize, snapshot: &[u8], out: &mut [u8]) -> Line
+    ensures { λ r. ⌜ (r, now (out .exit)) ≡ placesLine (now (out .entry)) number count (now (snapshot .entry)) ⌝ }
+{
+    if out.len() < Line::LIMIT {
+        return refused(Refusal::BUFFER_SHORT);
+    }
+    let numbered = put_number(out, 0, number);
+    let answered = put_numbered(out, numbered, b" ", input::byte_at(snapshot, 0) as u64);
+    let placed = put_places(out, answered, snapshot, shown(count));
+    let len = put_text(out, placed, b"\n");
+    Line { number: 0, len }
+}
+
+fn put_totals(out: &mut [u8], from: usize, totals: [u32; Task::TOTALS]) -> usize
+    requires { ⌜ from + totalWidth * totalCount ≤ length (now out) ⌝ }
+    ensures { λ r. ⌜ Put (now (out .entry)) from (totalsText totals totalCount) r (now (out .exit)) × (r ≤ from + totalWidth * totalCount) ⌝ }
+{
+    let mut at = from;
+    for i in 0..Task::TOTALS {
+        at = put_numbered(out, at, b" ", totals[i] as u64);
+    }
+    at
+}
+
+// A task's totals.
+pub fn totals_line(t: u8, totals: [u32; Task::TOTALS], out: &mut [u8]) -> Line
+    ensures { λ r. ⌜ (r, now (out .exit)) ≡ totalsLine (now (out .entry)) t totals ⌝ }
+{
+    if out.len() < Line::LIMIT {
+        return refused(Refusal::BUFFER_SHORT);
+    }
+    let named = put_numbered(out, 0, b"task ", t as u64);
+    let listed = put_totals(out, named, totals);
+    let len = put_text(out, listed, b"\n");
+    Line { number: 0, len }
+}
+
+// A refused block.
+pub fn block_line(index: u64, refusal: u8, out: &mut [u8]) -> Line
+    ensures { λ r. ⌜ (r, now (out .exit)) ≡ blockLine (now (out .entry)) index refusal ⌝ }
+{
+    if out.len() < Line::LIMIT {
+        return refused(Refusal::BUFFER_SHORT);
+    }
+    let named = put_numbered(out, 0, b"block ", index);
+    let answered = put_numbered(out, named, b" refused ", refusal as u64);
+    let len = put_text(out, answered, b"\n");
+    Line { number: 0, len }
+}
+
+// A refused set-up.
+pub fn setup_line(refusal: u8, out: &mut [u8]) -> Line
+    ensures { λ r. ⌜ (r, now (out .exit)) ≡ setupLine (now (out .entry)) refusal ⌝ }
+{
+    if out.len() < Line::LIMIT {
+        return refused(Refusal::BUFFER_SHORT);
+    }
+    let answered = put_numbered(out, 0, b"setup refused ", refusal as u64);
+    let len = put_text(out, answered, b"\n");
+    Line { number: 0, len }
+}

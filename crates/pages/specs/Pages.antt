@@ -1,0 +1,93 @@
+-- Document 01, 'Printing': the page of lines that is printed of each block, and the last one, at the input's end.
+use Prim.Native.Nat.{ℕ, suc, _+_, _*_, _%_, _<_, _≤_, min}
+use mathlib.Core.Path.{_≡_}
+use mathlib.Core.Bool.{true, false}
+use mathlib.Core.List.{List, []}
+use mathlib.Core.Logic.{_↔_}
+use lib.Dec.{ltb}
+use lib.ListN.{length}
+use Rattle.search.specs.Words.{if_then_else_, _is_}
+use Rattle.numbers.specs.Refusals.{sizeWrong, bufferShort}
+use Rattle.numbers.specs.Limits.{mostTasks}
+use Rattle.input.specs.Layout.{setupIn, eventCount}
+use Rattle.protocol.specs.Events.{begin, fresh}
+use Rattle.input.specs.Words.{noSetup}
+use Rattle.protocol.specs.declared.Reply.{Reply}
+use Rattle.states.specs.Writing.{written}
+use Rattle.locking.specs.Playing.{playedTo, snapshotAt}
+use Rattle.blocks.specs.Sizes.{mostEvents}
+use Rattle.blocks.specs.Verdicts.{verdict, usedPart}
+use Rattle.blocks.specs.declared.Verdict.{Verdict}
+use Rattle.blocks.specs.declared.Verdict.the-variants.{Used, Refused}
+use Rattle.search.specs.Texts.{eachText}
+use Rattle.lines.specs.Texts.{firstText, blockText, setupText}
+use Rattle.lines.specs.Buffers.{lineLimit, eventText}
+use Rattle.pages.specs.Files.{tasksText}
+use Rattle.pages.specs.declared.Session.{Session}
+use Rattle.pages.specs.declared.Page.{Page}
+
+-- how many numbers 64 bits hold
+abbrev pub wide : ℕ
+wide = 18446744073709551616
+
+-- the lines of the first of some events, on so many processors, numbered on from `events`
+abbrev pub eventsText : (ℕ → List ℕ) → ℕ → ℕ → ℕ → List ℕ
+eventsText line processors events = eachText (λ n. eventText ((events + suc n) % wide) processors (line n))
+
+-- before the first block
+unfoldable pub beginning : Session
+beginning = record { index = 0; events = 0; over = false; state = fresh noSetup }
+
+-- a page as the session after it and its text
+module _ (x : Session) where
+  -- the output ends here
+  abbrev pub ended : Session
+  ended = record { index = x .index; events = x .events; over = true; state = x .state }
+
+  -- the first block gives a set-up: its first line, or its refusal
+  abbrev pub setupPage : Reply → Session × List ℕ
+  setupPage r =
+      if r .answer is 0 then
+      (record { index = 1; events = 0; over = false; state = r .state }, firstText (r .state .setup .processors) (r .state .setup .tasks) (r .state .setup .start))
+      else (ended, setupText (r .answer))
+
+  -- every other block gives events: a line for each
+  abbrev pub eventPage : List ℕ → Session × List ℕ
+  eventPage part = (
+    record { index = x .index + 1; events = (x .events + eventCount part) % wide; over = false; state = playedTo (x .state) part (eventCount part) },
+    eventsText (snapshotAt (x .state) part) (x .state .setup .processors) (x .events) (eventCount part),
+  )
+
+  -- a refused block ends the output
+  abbrev pub blockPage : List ℕ → Verdict → Session × List ℕ
+  blockPage block (Used n) =
+      if x .index is 0 then setupPage (begin (setupIn (usedPart block (Used n)))) else eventPage (usedPart block (Used n))
+  blockPage block (Refused number) = (ended, blockText (x .index) number)
+
+  -- the input's end: the totals of each task. At least one block is expected: without one, block 0 is not 512 bytes
+  abbrev pub lastPage : Session × List ℕ
+  lastPage = (ended, (if x .index is 0 then blockText 0 sizeWrong else tasksText (x .state) (min (x .state .setup .tasks) mostTasks)))
+
+  -- what is printed once `read` was read: a block, or nothing at the input's end
+  unfoldable pub nextPage : List ℕ → Session × List ℕ
+  nextPage read =
+      if x .over then (x, [])
+      else if length read is 0 then lastPage
+      else blockPage read (verdict read (x .index))
+
+-- a page's buffer has so many bytes, or more: a line for each event of a block
+abbrev pub pageLimit : ℕ
+pageLimit = mostEvents * lineLimit
+
+-- the page into a buffer
+unfoldable pub paged : Session × List ℕ → List ℕ → Page × List ℕ
+paged (x, text) out = (record { session = x; number = 0; len = length text }, written out 0 text)
+
+-- in a buffer that is too short nothing is written, and nothing goes on
+unfoldable pub pageInto : Session → List ℕ → List ℕ → Page × List ℕ
+pageInto x read out = if ltb (length out) pageLimit then (record { session = x; number = bufferShort; len = 0 }, out) else paged (nextPage x read) out
+
+-- a page's number: 36 exactly where its buffer is too short, and else 0
+pub record PageNumbers (x : Session) (read out : List ℕ) : Type 0 where
+  pub given : (pageInto x read out .0 .number ≡ 0) ↔ (pageLimit ≤ length out)
+  pub narrow : (pageInto x read out .0 .number ≡ bufferShort) ↔ (length out < pageLimit)

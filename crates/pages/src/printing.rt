@@ -1,0 +1,156 @@
+// A page of lines: what is printed of a block, and at the input's end.
+use crate::Page;
+use crate::Session;
+use crate::writing::put_events;
+use crate::writing::put_tasks;
+use blocks::Block;
+use blocks::Verdict;
+use numbers::Refusal;
+use protocol::Reply;
+ghost use mathlib.Core.Path.{_≡_};
+ghost use Prim.Native.Nat.{_+_, _≤_, _<_};
+ghost use lib.ListN.{length};
+ghost use Rattle.input.specs.Layout.{setupIn, eventCount};
+ghost use Rattle.protocol.specs.Events.{begin as beginRule};
+ghost use Rattle.blocks.specs.Sizes.{mostEvents};
+ghost use Rattle.blocks.specs.Verdicts.{verdict};
+ghost use Rattle.pages.specs.Pages.{beginning, wide, ended as endedHere, setupPage, eventPage, blockPage, lastPage, pageLimit, paged, pageInto};
+
+// Before the first block.
+pub fn begin() -> Session
+    ensures { λ r. ⌜ r ≡ beginning ⌝ }
+{
+    Session {
+        index: 0,
+        events: 0,
+        over: false,
+        state: states::empty(),
+    }
+}
+
+// The page that ends the output.
+fn ended(x: Session, len: usize) -> Page
+    ensures { λ r. ⌜ r ≡ record { session = endedHere x; number = 0; len = len } ⌝ }
+{
+    let state = x.state;
+    let session = Session {
+        index: x.index,
+        events: x.events,
+        over: true,
+        state,
+    };
+    Page {
+        session,
+        number: 0,
+        len,
+    }
+}
+
+// The first block gives a set-up: its first line, or its refusal.
+fn setup_page(x: Session, part: &[u8], out: &mut [u8]) -> Page
+    requires { ⌜ pageLimit ≤ length (now out) ⌝ }
+    ensures { λ r. ⌜ ((r, now (out .exit)) ≡ paged (setupPage x (beginRule (setupIn (now (part .entry))))) (now (out .entry))) × (r .len ≤ length (now (out .exit))) ⌝ }
+{
+    let reply = states::begin(input::setup_from(part));
+    if reply.answer != 0 {
+        let line = lines::setup_line(reply.answer, out);
+        return ended(x, line.len);
+    }
+    let state = reply.state;
+    let setup = state.setup;
+    let line = lines::counts_line(setup.processors, setup.tasks, setup.start, out);
+    let session = Session {
+        index: 1,
+        events: 0,
+        over: false,
+        state,
+    };
+    Page {
+        session,
+        number: 0,
+        len: line.len,
+    }
+}
+
+// Every other block gives events: a line for each.
+fn event_page(x: Session, part: &[u8], out: &mut [u8]) -> Page
+    requires { ⌜ (pageLimit ≤ length (now out)) × (eventCount (now part) ≤ mostEvents) × (x .index + 1 < wide) ⌝ }
+    ensures { λ r. ⌜ ((r, now (out .exit)) ≡ paged (eventPage x (now (part .entry))) (now (out .entry))) × (r .len ≤ length (now (out .exit))) ⌝ }
+{
+    let before = x.state;
+    let setup = before.setup;
+    let mut written = [0u8; Block::MOST_EVENTS as usize * Reply::SNAPSHOT];
+    let played = locking::play(before, part, &mut written);
+    let state = played.state;
+    let count = played.count;
+    let len = put_events(out, &written, count, setup.processors, x.events);
+    let session = Session {
+        index: x.index + 1,
+        events: std::num::wrapping_add_u64(x.events, count as u64),
+        over: false,
+        state,
+    };
+    Page {
+        session,
+        number: 0,
+        len,
+    }
+}
+
+// A refused block ends the output.
+fn block_page(x: Session, block: &[u8], out: &mut [u8]) -> Page
+    requires { ⌜ pageLimit ≤ length (now out) ⌝ }
+    ensures { λ r. ⌜ ((r, now (out .exit)) ≡ paged (blockPage x (now (block .entry)) (verdict (now (block .entry)) (x .index))) (now (out .entry))) × (r .len ≤ length (now (out .exit))) ⌝ }
+{
+    let index = x.index;
+    let verdict = blocks::judge_block(block, index);
+    let Verdict::Used(_) = verdict else {
+        let line = lines::block_line(index, blocks::number_of(verdict), out);
+        return ended(x, line.len);
+    };
+    let part = blocks::used_part(block, verdict);
+    if index == 0 {
+        setup_page(x, part, out)
+    } else {
+        event_page(x, part, out)
+    }
+}
+
+// The input's end: the totals of each task. At least one block is expected.
+fn last_page(x: Session, out: &mut [u8]) -> Page
+    requires { ⌜ pageLimit ≤ length (now out) ⌝ }
+    ensures { λ r. ⌜ ((r, now (out .exit)) ≡ paged (lastPage x) (now (out .entry))) × (r .len ≤ length (now (out .exit))) ⌝ }
+{
+    if x.index == 0 {
+        let line = lines::block_line(0, Refusal::SIZE_WRONG, out);
+        return ended(x, line.len);
+    }
+    let state = x.state;
+    let len = put_tasks(out, state);
+    ended(x, len)
+}
+
+// What is printed once `read` was read: a block, or nothing at the input's end.
+pub fn next_page(x: Session, read: &[u8], out: &mut [u8]) -> Page
+    ensures { λ r. ⌜ ((r, now (out .exit)) ≡ pageInto x (now (read .entry)) (now (out .entry))) × (r .len ≤ length (now (out .exit))) ⌝ }
+{
+    if out.len() < Page::LIMIT {
+        return Page {
+            session: x,
+            number: Refusal::BUFFER_SHORT,
+            len: 0,
+        };
+    }
+    if x.over {
+        return Page {
+            session: x,
+            number: 0,
+            len: 0,
+        };
+    }
+    if read.len() == 0 {
+        last_page(x, out)
+    } else {
+        block_page(x, read, out)
+    }
+}

@@ -1,0 +1,79 @@
+// Several lines, one behind the other, into a buffer.
+use input::Setup;
+use protocol::Reply;
+use protocol::State;
+use protocol::Task;
+ghost use mathlib.Core.Path.{_≡_};
+ghost use Prim.Native.Nat.{_+_, _*_, _≤_, min};
+ghost use lib.ListN.{length, take, drop};
+ghost use Rattle.numbers.specs.Limits.{mostTasks};
+ghost use Rattle.states.specs.Writing.{snapshotSize};
+ghost use Rattle.lines.specs.Buffers.{Put, eventText, lineLimit};
+ghost use Rattle.lines.specs.Texts.{taskLineText};
+ghost use Rattle.pages.specs.Files.{tasksText};
+ghost use Rattle.pages.specs.Pages.{eventsText};
+
+// An event's line from a place on; gives the place behind it.
+fn put_event(out: &mut [u8], at: usize, number: u64, processors: usize, line: &[u8]) -> usize
+    requires { ⌜ at + lineLimit ≤ length (now out) ⌝ }
+    ensures { λ r. ⌜ Put (now (out .entry)) at (eventText number processors (now (line .entry))) r (now (out .exit)) × (r ≤ at + lineLimit) ⌝ }
+{
+    let put = lines::places_line(number, processors, line, &mut out[at..]);
+    at + put.len
+}
+
+// The lines of `count` events, as they were written, numbered on from `events`; gives their length.
+pub fn put_events(
+    out: &mut [u8],
+    written: &[u8],
+    count: usize,
+    processors: usize,
+    events: u64,
+) -> usize
+    requires { ⌜ (lineLimit * count ≤ length (now out)) × (snapshotSize * count ≤ length (now written)) ⌝ }
+    ensures { λ r. ⌜ Put (now (out .entry)) 0 (eventsText (λ n. take snapshotSize (drop (snapshotSize * n) (now (written .entry)))) processors events count) r (now (out .exit)) × (r ≤ lineLimit * count) ⌝ }
+{
+    let mut at = 0;
+    for i in 0..count {
+        let number = std::num::wrapping_add_u64(events, i as u64 + 1);
+        let from = Reply::SNAPSHOT * i;
+        let end = from + Reply::SNAPSHOT;
+        at = put_event(out, at, number, processors, &written[from..end]);
+    }
+    at
+}
+
+// A task's totals from a place on; gives the place behind them.
+fn put_task(out: &mut [u8], at: usize, t: u8, totals: [u32; Task::TOTALS]) -> usize
+    requires { ⌜ at + lineLimit ≤ length (now out) ⌝ }
+    ensures { λ r. ⌜ Put (now (out .entry)) at (taskLineText t totals) r (now (out .exit)) × (r ≤ at + lineLimit) ⌝ }
+{
+    let put = lines::totals_line(t, totals, &mut out[at..]);
+    at + put.len
+}
+
+// No more tasks than a state can have.
+fn listed(tasks: usize) -> usize
+    ensures { λ r. ⌜ r ≡ min tasks mostTasks ⌝ }
+{
+    if tasks < Setup::TASKS {
+        tasks
+    } else {
+        Setup::TASKS
+    }
+}
+
+// The totals of each task; gives the lines' length.
+pub fn put_tasks(out: &mut [u8], state: State) -> usize
+    requires { ⌜ lineLimit * mostTasks ≤ length (now out) ⌝ }
+    ensures { λ r. ⌜ Put (now (out .entry)) 0 (tasksText state (min (state .setup .tasks) mostTasks)) r (now (out .exit)) × (r ≤ lineLimit * mostTasks) ⌝ }
+{
+    let setup = state.setup;
+    let count = listed(setup.tasks);
+    let mut at = 0;
+    for i in 0..count {
+        let t = i as u8;
+        at = put_task(out, at, t, states::totals_of(state, t));
+    }
+    at
+}

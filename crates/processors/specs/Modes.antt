@@ -1,0 +1,12 @@
+-- The modes of a job, which are the constants of `Jobs`.
+use Prim.Native.Nat.{ℕ}
+
+-- not runnable: there is no job, or it is suspended
+abbrev pub off : ℕ
+off = 0
+
+abbrev pub preemptable : ℕ
+preemptable = 1
+
+abbrev pub nonPreemptable : ℕ
+nonPreemptable = 2

@@ -1,0 +1,61 @@
+// What is read off a state: situations, totals, links and placements.
+use crate::records::task_at;
+use crate::standings::situation_of;
+use crate::standings::stand_of;
+use processors::Processors;
+use protocol::Reply;
+use protocol::Situation;
+use protocol::State;
+use protocol::Task;
+ghost use mathlib.Core.Path.{_≡_};
+ghost use Rattle.processors.specs.Words.{link, runs};
+ghost use Rattle.protocol.specs.Words.{task as taskRecord};
+ghost use Rattle.protocol.specs.Situations.{situation as situationRule};
+ghost use Rattle.states.specs.Writing.{snapshotOf};
+
+// The number of the standing and the place of task `t` as one.
+pub fn situation(state: State, t: u8) -> Situation
+    ensures { λ r. ⌜ r ≡ situationRule state t ⌝ }
+{
+    let tasks = state.tasks;
+    let p = state.processors;
+    let task = task_at(tasks, t);
+    let standing = task.standing;
+    situation_of(stand_of(standing), p, t)
+}
+
+// The totals of task `t`: running, spinning, linked but not running, ready, suspended.
+pub fn totals_of(state: State, t: u8) -> [u32; Task::TOTALS]
+    ensures { λ r. ⌜ r ≡ taskRecord state t .totals ⌝ }
+{
+    let tasks = state.tasks;
+    let counted = task_at(tasks, t);
+    counted.totals
+}
+
+// The task that processor `k` is linked to, and the task that runs there, or nobody.
+pub fn linked_to(state: State, k: usize) -> u8
+    ensures { λ r. ⌜ r ≡ link (state .processors) k ⌝ }
+{
+    let p = state.processors;
+    processors::link_at(p, k)
+}
+
+pub fn running_on(state: State, k: usize) -> u8
+    ensures { λ r. ⌜ r ≡ runs (state .processors) k ⌝ }
+{
+    let p = state.processors;
+    processors::runs_at(p, k)
+}
+
+// The snapshot after an event: its answer, and per processor the linked and the running task.
+pub fn snapshot_of(answer: u8, p: Processors) -> [u8; Reply::SNAPSHOT]
+    ensures { λ r. ⌜ r ≡ snapshotOf answer p ⌝ }
+{
+    let mut snapshot = [answer; Reply::SNAPSHOT];
+    for k in 0..Processors::LIMIT {
+        snapshot[2 * k + 1] = processors::link_at(p, k);
+        snapshot[2 * k + 2] = processors::runs_at(p, k);
+    }
+    snapshot
+}

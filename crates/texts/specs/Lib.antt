@@ -1,3 +1,0 @@
-pub mod Buffers
-pub mod Lines
-pub mod Values
