@@ -27,8 +27,8 @@ abbrev pub OneByteIsCaught : Type 0
 OneByteIsCaught = (a b : List ℕ) → AreBytes a → AreBytes b → OneChanged a b
     → (k l m n : ℕ) → verdict a k ≡ Used m → verdict b l ≡ Used n → ⊥
 
--- of the check itself: a block of 512 bytes whose check is right, with one of the first 508 bytes changed, is refused with
--- 31, at whatever index
+-- of the check itself: a block of 512 bytes whose check is right, with one of the first 508 bytes changed, is refused
+-- with 31, at whatever index
 abbrev pub OneByteIsRefused : Type 0
 OneByteIsRefused = (block : List ℕ) (place value index : ℕ) → AreBytes block → length block ≡ blockSize
     → isChecked block ≡ true → place < checkAt → value < 256 → value ≢ byte block place

@@ -1,4 +1,5 @@
--- Document 01, 'Blocks' and 'Numbers handed back': the refusals 30 to 35 of a block, in the list's order, and its used part.
+-- Document 01, 'Blocks' and 'Numbers handed back': the refusals 30 to 35 of a block, in the list's order, and its
+-- used part.
 use Prim.Native.Nat.{ℕ, _+_, _-_, _*_, _%_}
 use mathlib.Core.Bool.{Bool, not, _&&_, _||_}
 use mathlib.Core.List.{List, []}

@@ -96,6 +96,7 @@ fn tell_pages(which: u64, state: State) {
         events: 5,
         over: false,
         state,
+        refused: false,
     };
     let block = event_block(1);
     begin_row(which, b" block");

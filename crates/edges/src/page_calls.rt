@@ -33,7 +33,8 @@ pub fn event_block(number: u16) -> [u8; Block::SIZE] {
     block
 }
 
-// The index and the events of the session after a page, whether the output is over, and whether the state is as before.
+// The index and the events of the session after a page, whether the output is over, and whether the state is as
+// before.
 fn print_after(before: Session, after: Session) {
     let state = before.state;
     let next = after.state;
@@ -74,6 +75,7 @@ fn tell_pages(index: u64, events: u64, over: bool, room: usize)
         events,
         over,
         state,
+        refused: false,
     };
     let block = event_block(65535);
     io::write_all(STDOUT_FILENO, b"page block");

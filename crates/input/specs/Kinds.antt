@@ -1,5 +1,5 @@
--- Document 01, 'Set-up' and 'Events': the kinds of resource and of event, and the table that says which fields each kind
--- of event uses.
+-- Document 01, 'Set-up' and 'Events': the kinds of resource and of event, and the table that says which fields each
+-- kind of event uses.
 use Prim.Native.Nat.{ℕ}
 use mathlib.Core.Bool.{true, false}
 use mathlib.Core.List.{[], _∷_}

@@ -7,7 +7,8 @@ use Rattle.numbers.specs.Limits.{mostTasks, mostResources, mostPairs}
 use Rattle.input.specs.declared.Setup.{Setup}
 use Rattle.input.specs.declared.Event.{Event}
 
--- where each part of a set-up begins: after four counts and four bytes of start, two bytes a period, one a kind, two a pair
+-- where each part of a set-up begins: after four counts and four bytes of start, two bytes a period, one a kind, two
+-- a pair
 abbrev pub startAt : ℕ
 startAt = 4
 

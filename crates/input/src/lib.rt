@@ -42,7 +42,8 @@ impl Setup {
     pub const SHORT: u8 = 0;
 
     pub const LONG: u8 = 1;
-    // Where each part of a set-up begins in a block's payload, after the four counts, and how many bytes it takes in all.
+    // Where each part of a set-up begins in a block's payload, after the four counts, and how many bytes it takes in
+    // all.
     pub const START_AT: usize = 4;
 
     pub const PERIODS_AT: usize = 8;

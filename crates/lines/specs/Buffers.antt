@@ -1,4 +1,5 @@
--- Lines by call: each into a lent buffer, with its number and its length; and an event's line out of what `play` wrote.
+-- Lines by call: each into a lent buffer, with its number and its length; and an event's line out of what `play`
+-- wrote.
 use Prim.Native.Nat.{ℕ, _+_, _*_, min}
 use mathlib.Core.Path.{_≡_}
 use mathlib.Core.List.{List, [], _++_}

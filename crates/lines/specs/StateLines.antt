@@ -29,7 +29,8 @@ module _ (out : List ℕ) where
   firstLine s = lineInto (stateRows s out) (firstText (s .setup .processors) (s .setup .tasks) (s .setup .start)) out
 
   abbrev pub eventLine : State → ℕ → ℕ → Line × List ℕ
-  eventLine s number answer = lineInto (stateRows s out) (eventText number (s .setup .processors) (snapshotOf answer (s .processors))) out
+  eventLine s number answer =
+      lineInto (stateRows s out) (eventText number (s .setup .processors) (snapshotOf answer (s .processors))) out
 
   abbrev pub taskLine : State → ℕ → Line × List ℕ
   taskLine s t = lineInto (taskRows s t out) (taskLineText t (task s t .totals)) out

@@ -50,7 +50,8 @@ fn put_place(out: &mut [u8], at: usize, linked: u8, running: u8) -> usize
 // On the first `count` processors.
 fn put_places(out: &mut [u8], from: usize, snapshot: &[u8], count: usize) -> usize
     requires { ⌜ (count ≤ mostProcessors) × (from + placeWidth * count ≤ length (now out)) ⌝ }
-    ensures { λ r. ⌜ Put (now (out .entry)) from (placesText (now (snapshot .entry)) count) r (now (out .exit)) × (r ≤ from + placeWidth * count) ⌝ }
+    ensures { λ r. ⌜ Put (now (out .entry)) from (placesText (now (snapshot .entry)) count) r (now (out .exit))
+        × (r ≤ from + placeWidth * count) ⌝ }
 {
     let mut at = from;
     for k in 0..count {
@@ -91,7 +92,8 @@ pub fn places_line(number: u64, count: usize, snapshot: &[u8], out: &mut [u8]) -
 
 fn put_totals(out: &mut [u8], from: usize, totals: [u32; Task::TOTALS]) -> usize
     requires { ⌜ from + totalWidth * totalCount ≤ length (now out) ⌝ }
-    ensures { λ r. ⌜ Put (now (out .entry)) from (totalsText totals totalCount) r (now (out .exit)) × (r ≤ from + totalWidth * totalCount) ⌝ }
+    ensures { λ r. ⌜ Put (now (out .entry)) from (totalsText totals totalCount) r (now (out .exit))
+        × (r ≤ from + totalWidth * totalCount) ⌝ }
 {
     let mut at = from;
     for i in 0..Task::TOTALS {

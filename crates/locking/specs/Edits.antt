@@ -1,5 +1,5 @@
--- Document 01, 'Events', over the records of an event's task and group: the records after it, the scheduler's move that
--- follows, and who is then handed the group.
+-- Document 01, 'Events', over the records of an event's task and group: the records after it, the scheduler's move
+-- that follows, and who is then handed the group.
 use Prim.Native.Nat.{ℕ}
 use mathlib.Core.Bool.{Bool, _||_}
 use mathlib.Core.List.{List}
@@ -77,8 +77,8 @@ module _ (kinds : List ℕ) (x : Task) (y : Group) where
         next = if y .queue .len is 0 then nobody else waiter (y .queue) 0;
       }
 
--- an event at the clock, on the record of its task: who arrives gets the deadline `due`, who finishes has none, and time
--- alone changes nothing
+-- an event at the clock, on the record of its task: who arrives gets the deadline `due`, who finishes has none, and
+-- time alone changes nothing
 unfoldable pub editing : List ℕ → ℕ → ℕ → Task → Group → Event → Edit
 editing kinds due clock x y e =
     if e .kind is arrival then keeping (arriving clock due x) y arrive

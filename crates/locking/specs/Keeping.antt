@@ -1,5 +1,5 @@
--- What is kept of a state while a part of events is played: its records, whose totals stand in one table of numbers, and
--- for each task three numbers that the moves and the charges look up.
+-- What is kept of a state while a part of events is played: its records, whose totals stand in one table of numbers,
+-- and for each task three numbers that the moves and the charges look up.
 use Prim.Native.Nat.{ℕ}
 use mathlib.Core.Path.{_≡_}
 use mathlib.Core.List.{List}

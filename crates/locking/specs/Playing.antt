@@ -39,4 +39,6 @@ module _ (s : State) (part out : List ℕ) where
 
   -- the state and the buffer after all, and how many they were
   unfoldable pub played : Played × List ℕ
-  played = (record { state = playedTo s part (playable part out); count = playable part out }, writtenTo (playable part out))
+  played =
+      let n = playable part out in
+      (record { state = playedTo s part n; count = n }, writtenTo n)

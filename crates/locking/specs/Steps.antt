@@ -23,8 +23,8 @@ isApart kinds naming r q =
     (getD kinds r 0 is long && getD kinds q 0 is short)
     || (getD kinds q 0 is getD kinds r 0 && getD naming q nothing isn't getD naming r nothing)
 
--- what an event's answer is made of: the set-up, the clock, the record of the event's task, whose totals it does not look
--- at, and the processors of a state, the groups' names, and whether it is sound
+-- what an event's answer is made of: the set-up, the clock, the record of the event's task, whose totals it does not
+-- look at, and the processors of a state, the groups' names, and whether it is sound
 pub record HasParts
     (s : State) (c : Setup) (clock : ℕ) (k : Task) (p : Processors) (naming : List ℕ) (tested : Bool) (e : Event)
     : Type 0 where

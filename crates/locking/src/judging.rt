@@ -100,8 +100,8 @@ fn field_rows(tasks: usize, resources: usize, e: Event, later: u8) -> u8
     numbers::row(Refusal::EVENT_UNKNOWN, !is_kind, r11)
 }
 
-// The first of 10 to 25 that applies, or 0, of a sound state by what an event looks at in it. The rows come from the last
-// to the first, as each needs what the later ones give.
+// The first of 10 to 25 that applies, or 0, of a sound state by what an event looks at in it. The rows come from the
+// last to the first, as each needs what the later ones give.
 fn judge_sound(
     setup: Setup,
     clock: u32,
@@ -142,9 +142,9 @@ fn judge_sound(
     field_rows(setup.tasks, setup.resources, e, r14)
 }
 
-// The first of 9 to 25 that applies, or 0, by what an event looks at in a state: the set-up, the clock, the record of the
-// event's task and the processors. `naming` has the name of each
-// resource's group, and `sound` says whether the state is sound; of one that is not, nothing else is looked at.
+// The first of 9 to 25 that applies, or 0, by what an event looks at in a state: the set-up, the clock, the record of
+// the event's task and the processors. `naming` has the name of each resource's group, and `sound` says whether the
+// state is sound; of one that is not, nothing else is looked at.
 pub fn judge_parts(
     setup: Setup,
     clock: u32,

@@ -15,8 +15,8 @@ ghost use Rattle.priorities.specs.Bounds.{rankWith};
 ghost use Rattle.locking.specs.Edits.{leave, giveWay, movedWith};
 ghost use Rattle.locking.specs.Keeping.{keptIn, keptWith};
 
-// What moves and charges look up of each task: its own rank, its mode and its standing's number. They are kept along from
-// event to event, so that none has to read every record again.
+// What moves and charges look up of each task: its own rank, its mode and its standing's number. They are kept along
+// from event to event, so that none has to read every record again.
 pub struct Kept {
     pub own: [u64; Setup::TASKS],
     pub modes: [u8; Setup::TASKS],

@@ -43,8 +43,9 @@ fn place_in(naming: [u8; Setup::RESOURCES], r: u8) -> usize
     if g < Setup::RESOURCES { g } else { 0 }
 }
 
-// The first `count` events of `part`, from a state that was tested. It is taken apart once and put together at the end, so
-// that no event copies all of it; meanwhile the totals stand in one table, and what moves look up is kept along.
+// The first `count` events of `part`, from a state that was tested. It is taken apart once and put together at the
+// end, so that no event copies all of it; meanwhile the totals stand in one table, and what moves look up is kept
+// along.
 fn play_events(state: State, tested: Tested, part: &[u8], count: usize, out: &mut [u8]) -> State
     requires { ⌜ (tested ≡ record { passes = sound state; naming = names (state .setup) })
         × (count ≡ playable (now part) (now out)) ⌝ }

@@ -3,7 +3,7 @@ use Prim.Native.Nat.{ℕ, zero, suc, _<_}
 use native.Mathlib.Nat.{not-suc-le-zero, le-of-suc-le-suc}
 use native.Mathlib.Omega.{arith}
 use mathlib.Core.Path.{_≡_, refl, sym, _∙_}
-use mathlib.Core.Bool.{Bool, true, false}
+use mathlib.Core.Bool.{Bool, true, false, true≢false}
 use mathlib.Core.List.{List, [], _∷_}
 use mathlib.Core.Logic.{_≢_, _↔_}
 use lib.ListN.{length, getD}
@@ -69,7 +69,19 @@ of-none (row ∷ rows) f = rw (f 0 (omega arith)) (of-none rows (λ k l. f (suc 
 pub none-iff : (rows : List Row) → isNumbered rows ≡ true → (firstOf rows ≡ 0) ↔ NoneApplies rows
 none-iff rows t = (none-of rows t, of-none rows)
 
--- ---- a number that stands at one place
+-- ---- two lists, row by row
+-- a row n that applies alike in both lists, and later rows that answer the same where it does not: the lists answer the
+-- same. `firstOf` of a row and later rows is this `if`, so a proof about two lists has one such step a row
+pub row-same : {a b : Bool} {x y : ℕ} (n : ℕ) → a ≡ b → (a ≡ false → x ≡ y) → (if a then n else x) ≡ (if b then n else y)
+row-same {a} {b} {x} {y} n e later = go a b e later
+  where
+    go : (a b : Bool) → a ≡ b → (a ≡ false → x ≡ y) → (if a then n else x) ≡ (if b then n else y)
+    go true true e later = refl
+    go true false e later = absurd (true≢false e)
+    go false true e later = absurd (true≢false (sym e))
+    go false false e later = later refl
+
+-- ---- a number that is at one row
 missing : (rows : List Row) (n : ℕ) → n ≢ 0 → isMissing rows n ≡ true → firstOf rows ≢ n
 missing [] n d m e = d (sym e)
 missing (row ∷ rows) n d m e = go (row .1) refl (missing rows n d (and-right (row .0 isn't n) _ m))

@@ -1,5 +1,5 @@
-// The numbers of a session: its limits, what stands for none, and the numbers handed back, each under its name; and one
-// row of a list of refusals. The lists and their laws are in specs/ and proofs/.
+// The numbers of a session: its limits, what stands for none, and the numbers handed back, each under its name; and
+// one row of a list of refusals. The lists and their laws are in specs/ and proofs/.
 ghost use mathlib.Core.Path.{_≡_};
 ghost use Rattle.search.specs.Words.{if_then_else_};
 

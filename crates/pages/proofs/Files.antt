@@ -1,9 +1,9 @@
 -- What the program prints of a whole file is what the rules say. Assumes nothing.
 use Prim.Native.Nat.{ℕ, zero, suc, _+_, _-_, _*_, _/_, _≤_, _<_, min}
 use mathlib.Core.Path.{_≡_, refl, sym, ap, subst, _∙_}
-use mathlib.Core.Bool.{Bool, true, false}
+use mathlib.Core.Bool.{Bool, true, false, true≢false}
 use mathlib.Core.List.{List, [], _∷_, _++_, append-nil, append-assoc}
-use mathlib.Core.Logic.{_≢_}
+use mathlib.Core.Logic.{_≢_, _↔_}
 use native.Mathlib.Nat.{add-zero, add-suc, suc-add}
 use native.Mathlib.Decide.{ℕ-discrete, decLt}
 use native.Mathlib.Omega.{arith}
@@ -34,10 +34,10 @@ use Rattle.lines.specs.Texts.{firstText, blockText}
 use Rattle.pages.specs.Pages.{beginning, nextPage}
 use Rattle.blocks.specs.Files.{blocksOf, refusalOf, partOf, eventsFrom, setupOf, eventsOf}
 use Rattle.pages.specs.Files.{answersText, tasksText, endText, stateOf, fileState, fileText}
-use Rattle.pages.specs.Program.{pages, printed, Begins, DemandsHold, PrintsTheRules, FilesPrintTheRules, Accepted, IsARun, AcceptedIsARun}
+use Rattle.pages.specs.Program.{pages, printed, Begins, DemandsHold, PrintsTheRules, FilesPrintTheRules, Accepted, IsARun, AcceptedIsARun, RefusalsAreReported}
 use Rattle.pages.specs.declared.Session.{Session}
 use Rattle.pages.proofs.Answers.{answers-join}
-use Rattle.pages.proofs.Openings.{at, overAt, page-refused, page-end, page-used, pages-over, firstSetup, first-start, first-refused, setup-refused, setup-given, few-events, part-bytes}
+use Rattle.pages.proofs.Openings.{at, overAt, page-refused, page-end, page-played, page-used, pages-over, firstSetup, first-start, first-refused, setup-refused, setup-given, few-events, part-bytes}
 
 -- no block is empty
 abbrev Some : List (List ℕ) → Type 0
@@ -73,7 +73,7 @@ module _ (c : Setup) where
       → Follows index events s (block ∷ blocks) (pages (at index events s) (read (block ∷ blocks)))
   unfolding eventsFrom endText eachText run runBy
   follow-refused index events s block blocks some d =
-      rw (pages-step (at index events s) block (read blocks) (page-refused index events s block some d), pages-over index events s (read blocks), ne-eqb (refusalOf block index) 0 d)
+      rw (pages-step (at index events s) block (read blocks) (page-refused index events s block some d), pages-over index events s true (read blocks), ne-eqb (refusalOf block index) 0 d)
       (append-nil (blockText index (refusalOf block index)), refl)
 
   -- a block accepted, and what follows it
@@ -140,16 +140,16 @@ module _ (first : List ℕ) (ok : refusalOf first 0 ≡ 0) (good : setupRefusal 
       (ap (λ l. firstText (c .processors) (c .tasks) (c .start) ++ l) text ∙ sym (append-assoc (firstText (c .processors) (c .tasks) (c .start)) _ _), all .1)
 
 -- an output that is over with its first page
-first-over : (read : List ℕ) (reads : List (List ℕ)) (text : List ℕ) → nextPage beginning read ≡ (overAt 0 0 (fresh noSetup), text)
+first-over : (read : List ℕ) (reads : List (List ℕ)) (text : List ℕ) → nextPage beginning read ≡ (overAt 0 0 (fresh noSetup) true, text)
     → (pages beginning (read ∷ reads) .1 ≡ text) × (pages beginning (read ∷ reads) .0 .state ≡ fresh noSetup)
-first-over read reads text page = rw (pages-step beginning read reads page, pages-over 0 0 (fresh noSetup) reads) (append-nil text, refl)
+first-over read reads text page = rw (pages-step beginning read reads page, pages-over 0 0 (fresh noSetup) true reads) (append-nil text, refl)
 
 -- an empty file lacks its first block
 none-refused : refusalOf [] 0 ≡ 30
 unfolding verdict blockRows
 none-refused = refl
 
-no-block : nextPage beginning [] ≡ (overAt 0 0 (fresh noSetup), blockText 0 (refusalOf [] 0))
+no-block : nextPage beginning [] ≡ (overAt 0 0 (fresh noSetup) true, blockText 0 (refusalOf [] 0))
 unfolding nextPage beginning
 no-block = rw none-refused
 
@@ -238,13 +238,29 @@ files-print-the-rules bytes all = record {
 abbrev AllUsed : ℕ → List (List ℕ) → Type 0
 AllUsed index blocks = (i : ℕ) → i < length blocks → refusalOf (getD blocks i []) (index + i) ≡ 0
 
+used-join : (index : ℕ) (block : List ℕ) (blocks : List (List ℕ)) → refusalOf block index ≡ 0 → AllUsed (suc index) blocks → AllUsed index (block ∷ blocks)
+used-join index block blocks ok used zero l = rw (add-zero index) ok
+used-join index block blocks ok used (suc i) l = rw (add-suc index i, ← (suc-add index i)) (used i (omega arith))
+
+used-first : (index : ℕ) (block : List ℕ) (blocks : List (List ℕ)) → AllUsed index (block ∷ blocks) → refusalOf block index ≡ 0
+used-first index block blocks used = rw (add-zero index) at (used 0 (omega arith))
+
+used-behind : (index : ℕ) (block : List ℕ) (blocks : List (List ℕ)) → AllUsed index (block ∷ blocks) → AllUsed (suc index) blocks
+used-behind index block blocks used i l = rw (suc-add index i, ← (add-suc index i)) (used (suc i) (omega arith))
+
+-- of a whole file
+from-0 : (blocks : List (List ℕ)) → AllUsed 0 blocks ↔ ((i : ℕ) → i < length blocks → refusalOf (getD blocks i []) i ≡ 0)
+from-0 blocks = (
+  (λ used i l. let e : 0 + i ≡ i = omega arith in rw e at (used i l)),
+  λ used i l. let e : 0 + i ≡ i = omega arith in rw e (used i l),
+)
+
 -- ends with the tasks' lines
 end-lines : (index : ℕ) (blocks : List (List ℕ)) (lines : List ℕ) → AllUsed index blocks → endText index blocks lines ≡ lines
 unfolding endText
 end-lines index [] lines used = refl
 end-lines index (block ∷ blocks) lines used =
-    rw (eq-eqb (refusalOf block index) 0 (rw (add-zero index) at (used 0 (omega arith))))
-    (end-lines (suc index) blocks lines (λ i l. rw (suc-add index i, ← (add-suc index i)) (used (suc i) (omega arith))))
+    rw (eq-eqb (refusalOf block index) 0 (used-first index block blocks used)) (end-lines (suc index) blocks lines (used-behind index block blocks used))
 
 pub accepted-is-a-run : AcceptedIsARun
 unfolding fileText fileState
@@ -252,8 +268,46 @@ accepted-is-a-run [] a = absurd (omega (arith, none-refused, a .begins .opens))
 accepted-is-a-run (first ∷ later) a =
     let open-first = eq-eqb (refusalOf first 0) 0 (a .begins .opens) in
     let setup = eq-eqb (setupRefusal (firstSetup first)) 0 (a .begins .setup) in
-    let used : AllUsed 1 later = λ i l. let e : 1 + i ≡ suc i = omega arith in rw e (a .follow (suc i) (omega arith)) in
+    let used : AllUsed 1 later = used-behind 0 first later (from-0 (first ∷ later) .1 (a .follow)) in
     record {
       text = rw (open-first, setup, end-lines 1 later _ used);
       states = λ n l. rw (open-first, setup);
     }
+
+-- ---- what the session says of refusals
+-- an output that is over with its first page was ended by one
+first-reported : (read : List ℕ) (reads : List (List ℕ)) {text : List ℕ} → nextPage beginning read ≡ (overAt 0 0 (fresh noSetup) true, text)
+    → pages beginning (read ∷ reads) .0 .refused ≡ true
+first-reported read reads page = rw (pages-step beginning read reads page, pages-over 0 0 (fresh noSetup) true reads)
+
+-- the blocks behind the first, and the end
+reported-behind : (blocks : List (List ℕ)) (index events : ℕ) (s : State) → Some blocks → index ≢ 0
+    → (pages (at index events s) (blocks ++ ([] ∷ [])) .0 .refused ≡ false) ↔ AllUsed index blocks
+unfolding pages
+reported-behind [] index events s some d = ((λ h i l. absurd (omega arith)), λ used. rw (page-end index events s d))
+reported-behind (block ∷ blocks) index events s some d = elim (ℕ-discrete (refusalOf block index) 0) [
+  | yes ok ↦
+      let rest = reported-behind blocks (suc index) _ _ (λ i l. some (suc i) (omega arith)) (λ e. omega arith) in
+      rw (pages-step (at index events s) block (blocks ++ ([] ∷ [])) (page-played index events s block d ok))
+      ((λ h. used-join index block blocks ok (rest .0 h)), λ used. rest .1 (used-behind index block blocks used))
+  | no bad ↦
+      rw (pages-step (at index events s) block (blocks ++ ([] ∷ [])) (page-refused index events s block (some 0 (omega arith)) bad), pages-over index events s true (blocks ++ ([] ∷ [])))
+      ((λ h. absurd (true≢false h)), λ used. absurd (bad (used-first index block blocks used)))
+]
+
+-- all blocks of a file, and the end
+reported-of : (blocks : List (List ℕ)) → Some blocks → (pages beginning (blocks ++ ([] ∷ [])) .0 .refused ≡ false) ↔ Accepted blocks
+reported-of [] some = ((λ h. absurd (true≢false (sym (first-reported [] [] no-block) ∙ h))), λ a. absurd (omega (arith, none-refused, a .begins .opens)))
+reported-of (first ∷ later) some = elim (ℕ-discrete (refusalOf first 0) 0) [
+  | yes ok ↦ elim (ℕ-discrete (setupRefusal (firstSetup first)) 0) [
+    | yes good ↦
+        let rest = reported-behind later 1 0 (begin (firstSetup first) .state) (λ i l. some (suc i) (omega arith)) (λ e. omega arith) in
+        rw (pages-step beginning first (later ++ ([] ∷ [])) (setup-given first ok good))
+        ((λ h. record { begins = record { opens = ok; setup = good }; follow = from-0 (first ∷ later) .0 (used-join 0 first later ok (rest .0 h)) }), λ a. rest .1 (used-behind 0 first later (from-0 (first ∷ later) .1 (a .follow))))
+    | no bad ↦ ((λ h. absurd (true≢false (sym (first-reported first (later ++ ([] ∷ [])) (setup-refused first ok bad)) ∙ h))), λ a. absurd (bad (a .begins .setup)))
+  ]
+  | no bad ↦ ((λ h. absurd (true≢false (sym (first-reported first (later ++ ([] ∷ [])) (first-refused first (some 0 (omega arith)) bad)) ∙ h))), λ a. absurd (bad (a .begins .opens)))
+]
+
+pub refusals-are-reported : RefusalsAreReported
+refusals-are-reported bytes all = reported-of (blocksOf bytes) (block-some bytes all)

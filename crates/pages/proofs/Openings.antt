@@ -1,7 +1,7 @@
 -- The page of each kind of thing read, told by the rules: an accepted block of events, a refused block, the end, and the first block. Assumes nothing.
 use Prim.Native.Nat.{ℕ, suc, _+_, _*_, _%_, _≤_, _<_, min}
 use mathlib.Core.Path.{_≡_, refl, sym, ap, _∙_}
-use mathlib.Core.Bool.{true, false}
+use mathlib.Core.Bool.{Bool, true, false}
 use mathlib.Core.List.{List, [], _∷_, _++_}
 use mathlib.Core.Logic.{_≢_}
 use native.Mathlib.Numerals.{add-one}
@@ -29,20 +29,21 @@ use Rattle.blocks.specs.declared.Verdict.the-variants.{Used, Refused}
 use Rattle.blocks.proofs.Numbers.{judge-none}
 use Rattle.blocks.proofs.Limits.{used-index, used-events}
 use Rattle.lines.specs.Texts.{firstText, blockText, setupText}
-use Rattle.pages.specs.Pages.{wide, beginning, nextPage}
+use Rattle.pages.specs.Pages.{wide, eventsText, beginning, nextPage}
 use Rattle.blocks.specs.Files.{refusalOf, partOf}
 use Rattle.pages.specs.Files.{answersText, tasksText}
 use Rattle.pages.specs.Program.{pages}
 use Rattle.pages.specs.declared.Session.{Session}
+use Rattle.locking.specs.Playing.{playedTo, snapshotAt}
 use Rattle.locking.proofs.Runs.{played-runs}
 use Rattle.pages.proofs.Answers.{answers-printed}
 
--- a session that goes on, and one that is over
+-- a session that goes on, and one that is over, with a refusal or without
 abbrev pub at : ℕ → ℕ → State → Session
-at index events s = record { index = index; events = events; over = false; state = s }
+at index events s = record { index = index; events = events; over = false; state = s; refused = false }
 
-abbrev pub overAt : ℕ → ℕ → State → Session
-overAt index events s = record { index = index; events = events; over = true; state = s }
+abbrev pub overAt : ℕ → ℕ → State → Bool → Session
+overAt index events s refused = record { index = index; events = events; over = true; state = s; refused = refused }
 
 -- ---- verdicts
 module _ (block : List ℕ) (index : ℕ) where
@@ -74,33 +75,40 @@ few-events block index d ok =
 module _ (index events : ℕ) (s : State) where
   -- ---- a refused block, and the end
   pub page-refused : (block : List ℕ) → length block ≢ 0 → refusalOf block index ≢ 0
-      → nextPage (at index events s) block ≡ (overAt index events s, blockText index (refusalOf block index))
+      → nextPage (at index events s) block ≡ (overAt index events s true, blockText index (refusalOf block index))
   unfolding nextPage
   page-refused block some d = let v = refused-of block index d in rw (ne-eqb (length block) 0 some, v)
 
-  pub page-end : index ≢ 0 → nextPage (at index events s) [] ≡ (overAt index events s, tasksText s (min (s .setup .tasks) mostTasks))
+  pub page-end : index ≢ 0 → nextPage (at index events s) [] ≡ (overAt index events s false, tasksText s (min (s .setup .tasks) mostTasks))
   unfolding nextPage
   page-end d = rw (ne-eqb index 0 d)
 
   -- ---- an accepted block of events
+  pub page-played : (block : List ℕ) → index ≢ 0 → refusalOf block index ≡ 0
+      → let part = partOf block index in
+      nextPage (at index events s) block
+      ≡ (at (suc index) ((events + eventCount part) % wide) (playedTo s part (eventCount part)), eventsText (snapshotAt s part) (s .setup .processors) events (eventCount part))
+  unfolding nextPage
+  page-played block d ok =
+      let u = used-of block index ok in
+      rw (ne-eqb (length block) 0 (used-long block index ok), u .1, ne-eqb index 0 d, add-one index)
+
   pub page-used : (block : List ℕ) → index ≢ 0 → events ≤ mostEvents * index → s .setup .processors ≤ mostProcessors → refusalOf block index ≡ 0
       → let es = eventsIn (partOf block index) in
       nextPage (at index events s) block ≡ (at (suc index) (events + length es) (run s es), answersText events (s .setup .processors) s es)
-  unfolding nextPage
   page-used block d low few ok =
       let u = used-of block index ok in
-      let v = u .1 in
-      let most = used-index block index (u .0) v in
-      let part = usedPart block (Used (u .0)) in
-      let many : eventCount part ≤ mostEvents = used-events block index (u .0) v d in
+      let most = used-index block index (u .0) (u .1) in
+      let part = partOf block index in
+      let many : eventCount part ≤ mostEvents = rw (table-length (eventIn part) (eventCount part)) at (few-events block index d ok) in
       let number : (events + eventCount part) % wide ≡ events + eventCount part = omega (arith, most, many, low) in
-      rw (ne-eqb (length block) 0 (used-long block index ok), v, ne-eqb index 0 d, add-one index, number, played-runs s part, answers-printed s part events (s .setup .processors) (omega (arith, most, many, low)) few, table-length (eventIn part) (eventCount part))
+      rw (page-played block d ok, number, played-runs s part, answers-printed s part events (s .setup .processors) (omega (arith, most, many, low)) few, table-length (eventIn part) (eventCount part))
 
 -- ---- once the output is over nothing follows
-pub pages-over : (index events : ℕ) (s : State) (reads : List (List ℕ)) → pages (overAt index events s) reads ≡ (overAt index events s, [])
+pub pages-over : (index events : ℕ) (s : State) (refused : Bool) (reads : List (List ℕ)) → pages (overAt index events s refused) reads ≡ (overAt index events s refused, [])
 unfolding pages nextPage
-pages-over index events s [] = refl
-pages-over index events s (read ∷ reads) = rw (pages-over index events s reads)
+pages-over index events s refused [] = refl
+pages-over index events s refused (read ∷ reads) = rw (pages-over index events s refused reads)
 
 -- ---- the first block
 -- a part of bytes is of bytes
@@ -121,11 +129,11 @@ module _ (first : List ℕ) where
   pub first-start : refusalOf first 0 ≡ 0 → AreBytes first → firstSetup first .start ≤ lastClock
   first-start ok all = let u = used-of first 0 ok in rw (u .1) (start-small _ (part-bytes first (u .0) payloadAt all))
 
-  pub first-refused : length first ≢ 0 → refusalOf first 0 ≢ 0 → nextPage beginning first ≡ (overAt 0 0 (fresh noSetup), blockText 0 (refusalOf first 0))
+  pub first-refused : length first ≢ 0 → refusalOf first 0 ≢ 0 → nextPage beginning first ≡ (overAt 0 0 (fresh noSetup) true, blockText 0 (refusalOf first 0))
   unfolding beginning
   first-refused some d = page-refused 0 0 (fresh noSetup) first some d
 
-  pub setup-refused : refusalOf first 0 ≡ 0 → setupRefusal (firstSetup first) ≢ 0 → nextPage beginning first ≡ (overAt 0 0 (fresh noSetup), setupText (setupRefusal (firstSetup first)))
+  pub setup-refused : refusalOf first 0 ≡ 0 → setupRefusal (firstSetup first) ≢ 0 → nextPage beginning first ≡ (overAt 0 0 (fresh noSetup) true, setupText (setupRefusal (firstSetup first)))
   unfolding nextPage beginning begin
   setup-refused ok d = let u = used-of first 0 ok in
       let e = rw (u .1) at d in

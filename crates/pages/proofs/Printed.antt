@@ -59,7 +59,7 @@ pub page-events : (x : Session) (part buffer out : List ℕ) {done : Played} {fi
     → eventCount part ≤ mostEvents → snapshotSize * mostEvents ≤ length buffer → pageLimit ≤ length out
     → (done, filled) ≡ played (x .state) part buffer → events ≡ (x .events + done .count) % wide
     → Put out 0 (eventsText (λ n. take snapshotSize (drop (snapshotSize * n) filled)) (x .state .setup .processors) (x .events) (done .count)) len after → len ≤ lineLimit * done .count
-    → Printed (eventPage x part) out (record { session = record { index = x .index + 1; events = events; over = false; state = done .state }; number = 0; len = len }) after
+    → Printed (eventPage x part) out (record { session = record { index = x .index + 1; events = events; over = false; state = done .state; refused = false }; number = 0; len = len }) after
 page-events x part buffer out {done} {filled} {events} {len} {after} few fits room made numbered put short =
     let counted = play-count (x .state) part buffer few fits made in
     let all = made ∙ play-all (x .state) part buffer few fits in

@@ -1,11 +1,11 @@
 -- Document 01, 'Printing': the page of lines that is printed of each block, and the last one, at the input's end.
 use Prim.Native.Nat.{ℕ, suc, _+_, _*_, _%_, _<_, _≤_, min}
 use mathlib.Core.Path.{_≡_}
-use mathlib.Core.Bool.{true, false}
+use mathlib.Core.Bool.{Bool, true, false}
 use mathlib.Core.List.{List, []}
 use mathlib.Core.Logic.{_↔_}
 use lib.Dec.{ltb}
-use lib.ListN.{length}
+use lib.ListN.{length, take, drop}
 use Rattle.search.specs.Words.{if_then_else_, _is_}
 use Rattle.numbers.specs.Refusals.{sizeWrong, bufferShort}
 use Rattle.numbers.specs.Limits.{mostTasks}
@@ -13,7 +13,7 @@ use Rattle.input.specs.Layout.{setupIn, eventCount}
 use Rattle.protocol.specs.Events.{begin, fresh}
 use Rattle.input.specs.Words.{noSetup}
 use Rattle.protocol.specs.declared.Reply.{Reply}
-use Rattle.states.specs.Writing.{written}
+use Rattle.states.specs.Writing.{snapshotSize, written}
 use Rattle.locking.specs.Playing.{playedTo, snapshotAt}
 use Rattle.blocks.specs.Sizes.{mostEvents}
 use Rattle.blocks.specs.Verdicts.{verdict, usedPart}
@@ -34,39 +34,56 @@ wide = 18446744073709551616
 abbrev pub eventsText : (ℕ → List ℕ) → ℕ → ℕ → ℕ → List ℕ
 eventsText line processors events = eachText (λ n. eventText ((events + suc n) % wide) processors (line n))
 
+-- the n-th of the snapshots that were written one behind another
+abbrev pub snapshotIn : List ℕ → ℕ → List ℕ
+snapshotIn written n = take snapshotSize (drop (snapshotSize * n) written)
+
 -- before the first block
 unfoldable pub beginning : Session
-beginning = record { index = 0; events = 0; over = false; state = fresh noSetup }
+beginning = record { index = 0; events = 0; over = false; state = fresh noSetup; refused = false }
 
 -- a page as the session after it and its text
 module _ (x : Session) where
-  -- the output ends here
-  abbrev pub ended : Session
-  ended = record { index = x .index; events = x .events; over = true; state = x .state }
+  -- the output ends here, with a refusal or without
+  abbrev pub ended : Bool → Session
+  ended refused = record { index = x .index; events = x .events; over = true; state = x .state; refused = refused }
 
   -- the first block gives a set-up: its first line, or its refusal
   abbrev pub setupPage : Reply → Session × List ℕ
   setupPage r =
-      if r .answer is 0 then
-      (record { index = 1; events = 0; over = false; state = r .state }, firstText (r .state .setup .processors) (r .state .setup .tasks) (r .state .setup .start))
-      else (ended, setupText (r .answer))
+      let c = r .state .setup in
+      if r .answer is 0 then (
+      record { index = 1; events = 0; over = false; state = r .state; refused = false },
+      firstText (c .processors) (c .tasks) (c .start))
+      else (ended true, setupText (r .answer))
 
   -- every other block gives events: a line for each
   abbrev pub eventPage : List ℕ → Session × List ℕ
   eventPage part = (
-    record { index = x .index + 1; events = (x .events + eventCount part) % wide; over = false; state = playedTo (x .state) part (eventCount part) },
+    record {
+      index = x .index + 1;
+      events = (x .events + eventCount part) % wide;
+      over = false;
+      state = playedTo (x .state) part (eventCount part);
+      refused = false;
+    },
     eventsText (snapshotAt (x .state) part) (x .state .setup .processors) (x .events) (eventCount part),
   )
 
   -- a refused block ends the output
   abbrev pub blockPage : List ℕ → Verdict → Session × List ℕ
   blockPage block (Used n) =
-      if x .index is 0 then setupPage (begin (setupIn (usedPart block (Used n)))) else eventPage (usedPart block (Used n))
-  blockPage block (Refused number) = (ended, blockText (x .index) number)
+      let part = usedPart block (Used n) in
+      if x .index is 0 then setupPage (begin (setupIn part)) else eventPage part
+  blockPage block (Refused number) = (ended true, blockText (x .index) number)
 
   -- the input's end: the totals of each task. At least one block is expected: without one, block 0 is not 512 bytes
   abbrev pub lastPage : Session × List ℕ
-  lastPage = (ended, (if x .index is 0 then blockText 0 sizeWrong else tasksText (x .state) (min (x .state .setup .tasks) mostTasks)))
+  lastPage = (
+    ended (x .index is 0),
+    (if x .index is 0 then blockText 0 sizeWrong
+    else tasksText (x .state) (min (x .state .setup .tasks) mostTasks)),
+  )
 
   -- what is printed once `read` was read: a block, or nothing at the input's end
   unfoldable pub nextPage : List ℕ → Session × List ℕ
@@ -85,7 +102,9 @@ paged (x, text) out = (record { session = x; number = 0; len = length text }, wr
 
 -- in a buffer that is too short nothing is written, and nothing goes on
 unfoldable pub pageInto : Session → List ℕ → List ℕ → Page × List ℕ
-pageInto x read out = if ltb (length out) pageLimit then (record { session = x; number = bufferShort; len = 0 }, out) else paged (nextPage x read) out
+pageInto x read out =
+    if ltb (length out) pageLimit then (record { session = x; number = bufferShort; len = 0 }, out)
+    else paged (nextPage x read) out
 
 -- a page's number: 36 exactly where its buffer is too short, and else 0
 pub record PageNumbers (x : Session) (read out : List ℕ) : Type 0 where

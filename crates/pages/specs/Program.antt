@@ -1,8 +1,10 @@
--- The program over a whole file, and the theorems about it: what it prints is what document 01 says, and demand 3 holds
--- at every line. `proofs/Files` proves them.
+-- The program over a whole file, and the theorems about it: what it prints is what document 01 says, and demand 3
+-- holds at every line. `proofs/Files` proves them.
 use Prim.Native.Nat.{ℕ, suc, _<_}
 use mathlib.Core.Path.{_≡_}
+use mathlib.Core.Bool.{false}
 use mathlib.Core.List.{List, [], _∷_, _++_}
+use mathlib.Core.Logic.{_↔_}
 use lib.ListN.{length, getD, take}
 use Rattle.input.specs.declared.Setup.{Setup}
 use Rattle.input.specs.declared.Event.{Event}
@@ -61,3 +63,8 @@ pub record IsARun (blocks : List (List ℕ)) : Type 0 where
 
 abbrev pub AcceptedIsARun : Type 0
 AcceptedIsARun = (blocks : List (List ℕ)) → Accepted blocks → IsARun blocks
+
+-- ---- what the session says at the end of any file: nothing was refused exactly where the file is accepted
+abbrev pub RefusalsAreReported : Type 0
+RefusalsAreReported = (bytes : List ℕ) → AreBytes bytes
+    → (pages beginning (blocksOf bytes ++ ([] ∷ [])) .0 .refused ≡ false) ↔ Accepted (blocksOf bytes)

@@ -25,12 +25,13 @@ pub fn begin() -> Session
         events: 0,
         over: false,
         state: states::empty(),
+        refused: false,
     }
 }
 
-// The page that ends the output.
-fn ended(x: Session, len: usize) -> Page
-    ensures { λ r. ⌜ r ≡ record { session = endedHere x; number = 0; len = len } ⌝ }
+// The page that ends the output, with a refusal or without.
+fn ended(x: Session, refused: bool, len: usize) -> Page
+    ensures { λ r. ⌜ r ≡ record { session = endedHere x refused; number = 0; len = len } ⌝ }
 {
     let state = x.state;
     let session = Session {
@@ -38,6 +39,7 @@ fn ended(x: Session, len: usize) -> Page
         events: x.events,
         over: true,
         state,
+        refused,
     };
     Page {
         session,
@@ -49,12 +51,13 @@ fn ended(x: Session, len: usize) -> Page
 // The first block gives a set-up: its first line, or its refusal.
 fn setup_page(x: Session, part: &[u8], out: &mut [u8]) -> Page
     requires { ⌜ pageLimit ≤ length (now out) ⌝ }
-    ensures { λ r. ⌜ ((r, now (out .exit)) ≡ paged (setupPage x (beginRule (setupIn (now (part .entry))))) (now (out .entry))) × (r .len ≤ length (now (out .exit))) ⌝ }
+    ensures { λ r. ⌜ ((r, now (out .exit)) ≡ paged (setupPage x (beginRule (setupIn (now (part .entry))))) (now (out .entry)))
+        × (r .len ≤ length (now (out .exit))) ⌝ }
 {
     let reply = states::begin(input::setup_from(part));
     if reply.answer != 0 {
         let line = lines::setup_line(reply.answer, out);
-        return ended(x, line.len);
+        return ended(x, true, line.len);
     }
     let state = reply.state;
     let setup = state.setup;
@@ -64,6 +67,7 @@ fn setup_page(x: Session, part: &[u8], out: &mut [u8]) -> Page
         events: 0,
         over: false,
         state,
+        refused: false,
     };
     Page {
         session,
@@ -75,7 +79,8 @@ fn setup_page(x: Session, part: &[u8], out: &mut [u8]) -> Page
 // Every other block gives events: a line for each.
 fn event_page(x: Session, part: &[u8], out: &mut [u8]) -> Page
     requires { ⌜ (pageLimit ≤ length (now out)) × (eventCount (now part) ≤ mostEvents) × (x .index + 1 < wide) ⌝ }
-    ensures { λ r. ⌜ ((r, now (out .exit)) ≡ paged (eventPage x (now (part .entry))) (now (out .entry))) × (r .len ≤ length (now (out .exit))) ⌝ }
+    ensures { λ r. ⌜ ((r, now (out .exit)) ≡ paged (eventPage x (now (part .entry))) (now (out .entry)))
+        × (r .len ≤ length (now (out .exit))) ⌝ }
 {
     let before = x.state;
     let setup = before.setup;
@@ -89,6 +94,7 @@ fn event_page(x: Session, part: &[u8], out: &mut [u8]) -> Page
         events: std::num::wrapping_add_u64(x.events, count as u64),
         over: false,
         state,
+        refused: false,
     };
     Page {
         session,
@@ -100,13 +106,15 @@ fn event_page(x: Session, part: &[u8], out: &mut [u8]) -> Page
 // A refused block ends the output.
 fn block_page(x: Session, block: &[u8], out: &mut [u8]) -> Page
     requires { ⌜ pageLimit ≤ length (now out) ⌝ }
-    ensures { λ r. ⌜ ((r, now (out .exit)) ≡ paged (blockPage x (now (block .entry)) (verdict (now (block .entry)) (x .index))) (now (out .entry))) × (r .len ≤ length (now (out .exit))) ⌝ }
+    ensures { λ r. ⌜ ((r, now (out .exit))
+        ≡ paged (blockPage x (now (block .entry)) (verdict (now (block .entry)) (x .index))) (now (out .entry)))
+        × (r .len ≤ length (now (out .exit))) ⌝ }
 {
     let index = x.index;
     let verdict = blocks::judge_block(block, index);
     let Verdict::Used(_) = verdict else {
         let line = lines::block_line(index, blocks::number_of(verdict), out);
-        return ended(x, line.len);
+        return ended(x, true, line.len);
     };
     let part = blocks::used_part(block, verdict);
     if index == 0 {
@@ -119,20 +127,22 @@ fn block_page(x: Session, block: &[u8], out: &mut [u8]) -> Page
 // The input's end: the totals of each task. At least one block is expected.
 fn last_page(x: Session, out: &mut [u8]) -> Page
     requires { ⌜ pageLimit ≤ length (now out) ⌝ }
-    ensures { λ r. ⌜ ((r, now (out .exit)) ≡ paged (lastPage x) (now (out .entry))) × (r .len ≤ length (now (out .exit))) ⌝ }
+    ensures { λ r. ⌜ ((r, now (out .exit)) ≡ paged (lastPage x) (now (out .entry)))
+        × (r .len ≤ length (now (out .exit))) ⌝ }
 {
     if x.index == 0 {
         let line = lines::block_line(0, Refusal::SIZE_WRONG, out);
-        return ended(x, line.len);
+        return ended(x, true, line.len);
     }
     let state = x.state;
     let len = put_tasks(out, state);
-    ended(x, len)
+    ended(x, false, len)
 }
 
 // What is printed once `read` was read: a block, or nothing at the input's end.
 pub fn next_page(x: Session, read: &[u8], out: &mut [u8]) -> Page
-    ensures { λ r. ⌜ ((r, now (out .exit)) ≡ pageInto x (now (read .entry)) (now (out .entry))) × (r .len ≤ length (now (out .exit))) ⌝ }
+    ensures { λ r. ⌜ ((r, now (out .exit)) ≡ pageInto x (now (read .entry)) (now (out .entry)))
+        × (r .len ≤ length (now (out .exit))) ⌝ }
 {
     if out.len() < Page::LIMIT {
         return Page {

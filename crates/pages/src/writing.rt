@@ -5,18 +5,19 @@ use protocol::State;
 use protocol::Task;
 ghost use mathlib.Core.Path.{_≡_};
 ghost use Prim.Native.Nat.{_+_, _*_, _≤_, min};
-ghost use lib.ListN.{length, take, drop};
+ghost use lib.ListN.{length};
 ghost use Rattle.numbers.specs.Limits.{mostTasks};
 ghost use Rattle.states.specs.Writing.{snapshotSize};
 ghost use Rattle.lines.specs.Buffers.{Put, eventText, lineLimit};
 ghost use Rattle.lines.specs.Texts.{taskLineText};
 ghost use Rattle.pages.specs.Files.{tasksText};
-ghost use Rattle.pages.specs.Pages.{eventsText};
+ghost use Rattle.pages.specs.Pages.{snapshotIn, eventsText};
 
 // An event's line from a place on; gives the place behind it.
 fn put_event(out: &mut [u8], at: usize, number: u64, processors: usize, line: &[u8]) -> usize
     requires { ⌜ at + lineLimit ≤ length (now out) ⌝ }
-    ensures { λ r. ⌜ Put (now (out .entry)) at (eventText number processors (now (line .entry))) r (now (out .exit)) × (r ≤ at + lineLimit) ⌝ }
+    ensures { λ r. ⌜ Put (now (out .entry)) at (eventText number processors (now (line .entry))) r (now (out .exit))
+        × (r ≤ at + lineLimit) ⌝ }
 {
     let put = lines::places_line(number, processors, line, &mut out[at..]);
     at + put.len
@@ -31,7 +32,9 @@ pub fn put_events(
     events: u64,
 ) -> usize
     requires { ⌜ (lineLimit * count ≤ length (now out)) × (snapshotSize * count ≤ length (now written)) ⌝ }
-    ensures { λ r. ⌜ Put (now (out .entry)) 0 (eventsText (λ n. take snapshotSize (drop (snapshotSize * n) (now (written .entry)))) processors events count) r (now (out .exit)) × (r ≤ lineLimit * count) ⌝ }
+    ensures { λ r. ⌜ Put (now (out .entry)) 0
+        (eventsText (snapshotIn (now (written .entry))) processors events count) r (now (out .exit))
+        × (r ≤ lineLimit * count) ⌝ }
 {
     let mut at = 0;
     for i in 0..count {
@@ -66,7 +69,8 @@ fn listed(tasks: usize) -> usize
 // The totals of each task; gives the lines' length.
 pub fn put_tasks(out: &mut [u8], state: State) -> usize
     requires { ⌜ lineLimit * mostTasks ≤ length (now out) ⌝ }
-    ensures { λ r. ⌜ Put (now (out .entry)) 0 (tasksText state (min (state .setup .tasks) mostTasks)) r (now (out .exit)) × (r ≤ lineLimit * mostTasks) ⌝ }
+    ensures { λ r. ⌜ Put (now (out .entry)) 0 (tasksText state (min (state .setup .tasks) mostTasks)) r (now (out .exit))
+        × (r ≤ lineLimit * mostTasks) ⌝ }
 {
     let setup = state.setup;
     let count = listed(setup.tasks);

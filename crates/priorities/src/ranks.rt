@@ -103,8 +103,8 @@ fn unraised(own: [u64; Setup::TASKS], queue: Queue) -> [u64; Setup::TASKS]
     ranks
 }
 
-// The effective ranks, from the own ones: those that wait for a long group raise its holder. From the last group to the
-// first, so that the lowest that a task holds stays.
+// The effective ranks, from the own ones: those that wait for a long group raise its holder. From the last group to
+// the first, so that the lowest that a task holds stays.
 pub fn ranks_of(
     own: [u64; Setup::TASKS],
     kinds: [u8; Setup::RESOURCES],

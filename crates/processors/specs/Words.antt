@@ -77,4 +77,8 @@ linkOn p k t = record { count = p .count; linked = set (p .linked) k t; running 
 
 -- none of `count` processors has a link, and none runs a job
 unfoldable pub noneLinked : ℕ → Processors
-noneLinked count = record { count = count; linked = replicate mostProcessors nobody; running = replicate mostProcessors nobody }
+noneLinked count = record {
+  count = count;
+  linked = replicate mostProcessors nobody;
+  running = replicate mostProcessors nobody;
+}

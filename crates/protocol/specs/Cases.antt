@@ -1,5 +1,5 @@
--- Document 01's twelve cases to be proved, P1 to P12: one table under one statement, computed with the rules. A step is
--- refused with 9 where the state is not sound, so the sound test runs at every step.
+-- Document 01's twelve cases to be proved, P1 to P12: one table under one statement, computed with the rules. A step
+-- is refused with 9 where the state is not sound, so the sound test runs at every step.
 use Prim.Native.Nat.{ℕ, _-_}
 use mathlib.Core.Bool.{Bool, true, false, _&&_}
 use mathlib.Core.List.{List, [], _∷_, _++_, map}
@@ -74,7 +74,9 @@ follows (l ∷ ls) totals s =
 abbrev holds : Case → Bool
 holds c =
     let r = begin (c .setup) in
-    r .answer is 0 && same (map (groupOf (c .setup)) (table (λ i. i) (c .setup .resources))) (c .groups) && follows (c .lines) (c .totals) (r .state)
+    r .answer is 0
+    && same (map (groupOf (c .setup)) (table (λ i. i) (c .setup .resources))) (c .groups)
+    && follows (c .lines) (c .totals) (r .state)
 
 -- ---- how a case is written
 abbrev filled : ℕ → List ℕ → List ℕ
@@ -162,11 +164,20 @@ cases =
     ∷ record {
       setup = given 1 0 (one 1) [] [] [];
       groups = [];
-      lines = line 5 0 0 32768 14 (one nobody) (one nobody) ∷ line 5 0 0 32767 0 (one nobody) (one nobody) ∷ line 5 0 0 65535 14 (one nobody) (one nobody) ∷ [];
-      totals = replicate 5 0 ∷ [];
+      lines =
+          line 5 0 0 32768 14 (one nobody) (one nobody)
+          ∷ line 5 0 0 32767 0 (one nobody) (one nobody)
+          ∷ line 5 0 0 65535 14 (one nobody) (one nobody)
+          ∷ [];
+      totals = replicate totalCount 0 ∷ [];
     }
     -- P12: pairs (2,1) and (1,0), all short: one group, named 0
-    ∷ record { setup = given 1 0 (one 1) (0 ∷ 0 ∷ 0 ∷ []) (two 2 1) (two 1 0); groups = 0 ∷ 0 ∷ 0 ∷ []; lines = []; totals = replicate 5 0 ∷ [] }
+    ∷ record {
+      setup = given 1 0 (one 1) (0 ∷ 0 ∷ 0 ∷ []) (two 2 1) (two 1 0);
+      groups = 0 ∷ 0 ∷ 0 ∷ [];
+      lines = [];
+      totals = replicate totalCount 0 ∷ [];
+    }
     ∷ []
 
 pub cases-hold : all holds cases ≡ true

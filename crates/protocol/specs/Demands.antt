@@ -1,6 +1,6 @@
--- Demand 3 and the totals, as statements about a state, an event or a list of events; and, at the end, the theorems: that
--- they hold of every run from an accepted set-up, `after`. `proofs/Theorems` proves them; nothing else need be read to know
--- what is promised.
+-- Demand 3 and the totals, as statements about a state, an event or a list of events; and, at the end, the theorems:
+-- that they hold of every run from an accepted set-up, `after`. `proofs/Theorems` proves them; nothing else need be
+-- read to know what is promised.
 use Prim.Native.Nat.{ℕ, zero, suc, _+_, _-_, _<_, _≤_, min}
 use mathlib.Core.Path.{_≡_}
 use mathlib.Core.Bool.{Bool, true, false, not, _&&_}
@@ -62,9 +62,11 @@ PrioritiesApart s = (t u : ℕ) → t < mostTasks → u < mostTasks → isRunnab
 pub record LinksHighest (s : State) (m : ℕ) : Type 0 where
   pub highest : (t : ℕ) → t < mostTasks → Linked s t ↔ ((isRunnable s t ≡ true) × (howMany (isAhead s t) mostTasks < m))
   pub once : (k i : ℕ) → link (s .processors) k ≢ nobody → link (s .processors) k ≡ link (s .processors) i → k ≡ i
-  pub many : howMany (λ k. link (s .processors) k isn't nobody) mostProcessors ≡ min m (howMany (isRunnable s) mostTasks)
+  pub many : howMany (λ k. link (s .processors) k isn't nobody) mostProcessors
+      ≡ min m (howMany (isRunnable s) mostTasks)
 
--- what the sound state asks of links and placements: what is settled of them, clause by clause, and linked jobs as above
+-- what the sound state asks of links and placements: what is settled of them, clause by clause, and linked jobs as
+-- above
 abbrev pub PlacedAsDemanded : Type 0
 PlacedAsDemanded = (s : State) → Sized (s .processors) → s .processors .count ≡ s .setup .processors
     → (isPlaced (s .processors) (jobs (s .setup) s) ≡ true)
@@ -109,9 +111,10 @@ unfoldable pub completions : State → List Move → ℕ → ℕ
 completions s [] g = 0
 completions s (m ∷ ms) g = (if handsOver s (m .event) g then 1 else 0) + completions (moved s m) ms g
 
--- e asks, in s, for a short resource while no short request is open, and is accepted: it finds `found` jobs before it, fewer
--- than m; and after any further events, as many completions of outermost requests there as there were leave n of the `found`
--- before it: it holds where n is 0, so after exactly `found` completions, and until then waits for what it asked
+-- e asks, in s, for a short resource while no short request is open, and is accepted: it finds `found` jobs before
+-- it, fewer than m; and after any further events, as many completions of outermost requests there as there were leave
+-- n of the `found` before it: it holds where n is 0, so after exactly `found` completions, and until then waits for
+-- what it asked
 pub record ShortQueue (s : State) (pick : Prefers) (e : Event) (m : ℕ) : Type 0 where
   pub found : ℕ
   pub few : found < m
@@ -135,9 +138,8 @@ pub record Demand3 (c : Setup) (ms : List Move) : Type 0 where
   pub places : OnePlace (after c ms)
   pub queues : ShortQueues (after c ms) (c .processors)
 
--- ---- totals
--- the ticks that t has been pending, from its accepted arrivals and finishes and their clocks: since the clock `since`, if
--- it is pending at the start
+-- ---- totals the ticks that t has been pending, from its accepted arrivals and finishes and their clocks: since the
+-- clock `since`, if it is pending at the start
 unfoldable pub pendingTicks : State → List Move → ℕ → Bool → ℕ → ℕ
 pendingTicks s [] t pending since = if pending then s .clock - since else 0
 pendingTicks s (m ∷ ms) t pending since =
@@ -181,8 +183,8 @@ abbrev pub RefusedLeftOut : Type 0
 RefusedLeftOut = Always (λ c ms. (m : Move) (ns : List Move) → judge (after c ms) (m .event) ≢ 0
     → after c (ms ++ m ∷ ns) ≡ after c (ms ++ ns))
 
--- ---- a refused event hands back the very state, whatever is suggested; and a refused set-up an empty one: no processors, no
--- task, no lock, clock 0
+-- ---- a refused event hands back the very state, whatever is suggested; and a refused set-up an empty one: no
+-- processors, no task, no lock, clock 0
 abbrev pub RefusedKeeps : Type 0
 RefusedKeeps = (pick : Prefers) (s : State) (e : Event) → stepBy pick s e .answer ≢ 0 → stepBy pick s e .state ≡ s
 

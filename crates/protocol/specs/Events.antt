@@ -45,8 +45,8 @@ module _ (c : Setup) (t : ℕ) where
   unfoldable pub finishEvent : State → State
   finishEvent s = leaves c t (finishEdit t s)
 
-  -- Request. Same kind open, or the group free: granted at once. Otherwise a short request spins at the queue's end, and
-  -- a long one joins the queue, which raises the holder's priority, then suspends.
+  -- Request. Same kind open, or the group free: granted at once. Otherwise a short request spins at the queue's end,
+  -- and a long one joins the queue, which raises the holder's priority, then suspends.
   unfoldable pub requestEvent : ℕ → State → State
   requestEvent r s =
       let g = groupOf c r in
@@ -62,9 +62,9 @@ counting i n t = withTotals (set (t .totals) i (getD (t .totals) i 0 + n)) t
 -- and the clock goes on by as many
 unfoldable pub charged : ℕ → State → State
 charged n s =
-    withClock (s .clock + n) (withTasks
-    (table (λ t. if stand s t isn't absent then counting (totalOf (situation s t)) n (task s t) else task s t) mostTasks)
-    s)
+    withClock (s .clock + n) (withTasks (table
+    (λ t. if stand s t isn't absent then counting (totalOf (situation s t)) n (task s t) else task s t)
+    mostTasks) s)
 
 -- ---- who arrives or resumes, and a whole step
 -- a processor suggested to a task in a state; document 01 suggests none, and the lowest-numbered unlinked one is taken

@@ -1,5 +1,5 @@
--- Document 01, 'How tight the statements are': four impostors, each of which differs from `step` at the step of the printed case
--- that is named there. An impostor is told the state and the event, and what it answered first.
+-- Document 01, 'How tight the statements are': four impostors, each of which differs from `step` at the step of the
+-- printed case that is named there. An impostor is told the state and the event, and what it answered first.
 use Prim.Native.Nat.{ℕ}
 use mathlib.Core.Path.{ap}
 use mathlib.Core.Logic.{_≢_}

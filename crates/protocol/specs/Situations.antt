@@ -12,7 +12,8 @@ use Rattle.protocol.specs.declared.Situation.{Situation}
 use Rattle.protocol.specs.declared.Situation.the-variants.{NoJob, Running, Spinning, LinkedOnly, Ready, Suspended}
 use Rattle.protocol.specs.declared.State.{State}
 
--- of task t with a standing, as a number, among the processors: a job on a processor is spinning or running, linked or not
+-- of task t with a standing, as a number, among the processors: a job on a processor is spinning or running, linked
+-- or not
 abbrev pub situationOf : ℕ → Processors → ℕ → Situation
 situationOf standing p t =
     if standing is absent then NoJob

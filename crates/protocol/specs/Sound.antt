@@ -23,8 +23,8 @@ module _ (c : Setup) (s : State) where
   unfoldable pub clockSound : Bool
   clockSound = leb (c .start) (s .clock) && leb (s .clock) lastClock
 
-  -- last arrivals, where there are any, between them; a pending job's deadline is its last arrival plus its period, and
-  -- without a job there is none; the totals sum to at most clock minus start
+  -- last arrivals, where there are any, between them; a pending job's deadline is its last arrival plus its period,
+  -- and without a job there is none; the totals sum to at most clock minus start
   unfoldable pub timesSound : ℕ → Bool
   timesSound t =
       (task s t .arrived implies (leb (c .start) (task s t .last) && leb (task s t .last) (s .clock)))
@@ -51,8 +51,8 @@ module _ (c : Setup) (s : State) where
       requestKind t i is requestKind t k implies requestGroup t i is requestGroup t k))
       && (stand s t is absent implies depth s t is 0)
 
-  -- a waiting job is in the queue of what it asked, which it could have asked by 22 to 24; it has nothing open of the kind
-  -- it asked for, and one suspended holds nothing
+  -- a waiting job is in the queue of what it asked, which it could have asked by 22 to 24; it has nothing open of the
+  -- kind it asked for, and one suspended holds nothing
   unfoldable pub waitingSound : ℕ → Bool
   waitingSound t =
       leb spinning (stand s t) implies (
@@ -63,7 +63,8 @@ module _ (c : Setup) (s : State) where
       && (stand s t is suspended implies depth s t is 0)
       && ltb (depth s t) mostRequests)
 
-  -- groups have no other holder; queues hold waiting jobs only, who asked there, each once; only held groups have queues
+  -- groups have no other holder; queues hold waiting jobs only, who asked there, each once; only held groups have
+  -- queues
   unfoldable pub groupSound : ℕ → Bool
   groupSound g =
       (holder s g isn't nobody implies anyBelow (depth s (holder s g)) (λ i. requestGroup (holder s g) i is g))

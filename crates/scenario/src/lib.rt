@@ -69,8 +69,8 @@ struct Read {
     end: usize,
 }
 
-// A file in the making: its set-up so far; whether its processors and its start are given; the index of the block being
-// filled, 0 while the set-up is open; and the events of that block.
+// A file in the making: its set-up so far; whether its processors and its start are given; the index of the block
+// being filled, 0 while the set-up is open; and the events of that block.
 pub struct Draft {
     pub setup: Setup,
     pub sized: bool,
@@ -79,8 +79,8 @@ pub struct Draft {
     pub events: Events,
 }
 
-// What became of an item: the draft keeps it, or has written a block into the lent buffer; the item is faulty, with the
-// reason; or the writer refused the block, with its number. The last two leave the draft as it was.
+// What became of an item: the draft keeps it, or has written a block into the lent buffer; the item is faulty, with
+// the reason; or the writer refused the block, with its number. The last two leave the draft as it was.
 pub enum Told {
     Kept,
     Written,

@@ -34,8 +34,8 @@ lowestLinked p j = best (isUsed p) (linksLower p j) mostProcessors mostProcessor
 abbrev pub canPreempt : Processors → Jobs → ℕ → Bool
 canPreempt p j k = runs p k is link p k && modeOf j (link p k) is preemptable
 
--- Otherwise compare with the lowest-priority linked job, that of processor k: if the comer t is higher it takes that link,
--- and runs at once only if the displaced job is running and preemptable.
+-- Otherwise compare with the lowest-priority linked job, that of processor k: if the comer t is higher it takes that
+-- link, and runs at once only if the displaced job is running and preemptable.
 unfoldable pub displacing : Processors → Jobs → ℕ → ℕ → Processors
 displacing p j t k =
     if ltb k mostProcessors && isHigher j t (link p k) then

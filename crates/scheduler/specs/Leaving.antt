@@ -1,4 +1,5 @@
--- The rules 'Becoming preemptable' and 'Finish or suspend', and the step of a long completion in which the completer gives way.
+-- The rules 'Becoming preemptable' and 'Finish or suspend', and the step of a long completion in which the completer
+-- gives way.
 use Prim.Native.Nat.{ℕ}
 use mathlib.Core.Bool.{_&&_}
 use lib.Dec.{ltb}
@@ -21,8 +22,8 @@ becomingPreemptable p t = if ltb (runOf p t) mostProcessors then awaitedElse p (
 unfoldable pub nextTask : Processors → Jobs → ℕ
 nextTask p j = best (isUnlinked p j) (isHigher j) mostTasks mostTasks
 
--- u is linked: if not running, to k, and runs there; if it runs on q, it becomes linked to q, and the job that was linked
--- to q moves its link to k and runs on k.
+-- u is linked: if not running, to k, and runs there; if it runs on q, it becomes linked to q, and the job that was
+-- linked to q moves its link to k and runs on k.
 unfoldable pub filling : Processors → ℕ → ℕ → ℕ → Processors
 filling p k u q = if ltb q mostProcessors then placeOn (linkOn p q u) k (link p q) else placeOn p k u
 
@@ -38,7 +39,7 @@ leavingFrom p j k = awaitedElse p k (refilling (placeOn p k nobody) j k)
 unfoldable pub leaving : Processors → Jobs → ℕ → Processors
 leaving p j t = if ltb (runOf p t) mostProcessors then leavingFrom p j (runOf p t) else p
 
--- An outermost long completion has restored t's priority: if an unlinked runnable job is now higher than t, t loses its link
--- and stops, and the rule for a freed processor follows, t being a candidate.
+-- An outermost long completion has restored t's priority: if an unlinked runnable job is now higher than t, t loses
+-- its link and stops, and the rule for a freed processor follows, t being a candidate.
 unfoldable pub givingWay : Processors → Jobs → ℕ → Processors
 givingWay p j t = if ltb (nextTask p j) mostTasks && isHigher j (nextTask p j) t then leaving p j t else p

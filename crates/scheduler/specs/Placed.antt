@@ -51,18 +51,19 @@ pub record Placed (p : Processors) (j : Jobs) : Type 0 where
   pub highest : (k t : ℕ) → k < p .count → Runnable j t → Unlinked p t
       → (link p k ≢ nobody) × (rankOf j (link p k) < rankOf j t)
 
--- the same by counting: linked are the runnable jobs with fewer than `count` runnable jobs of higher priority, as many as
--- there are processors or runnable jobs, if fewer
+-- the same by counting: linked are the runnable jobs with fewer than `count` runnable jobs of higher priority, as
+-- many as there are processors or runnable jobs, if fewer
 pub record Counted (p : Processors) (j : Jobs) : Type 0 where
   pub highest : (t : ℕ) → t < mostTasks
       → ((k : ℕ) × (link p k ≡ t)) ↔ (Runnable j t × (howMany (isAhead j t) mostTasks < p .count))
   pub many : howMany (λ k. link p k isn't nobody) mostProcessors ≡ min (p .count) (howMany (isRunnable j) mostTasks)
 
--- what is owed, by this scheduler or another, to those above it: who runs is runnable, and every non-preemptable job runs, on
--- one of the processors that there are
+-- what is owed, by this scheduler or another, to those above it: who runs is runnable, and every non-preemptable job
+-- runs, on one of the processors that there are
 pub record Served (p : Processors) (j : Jobs) : Type 0 where
   pub runnable : (t : ℕ) → t < mostTasks → runOf p t < mostProcessors → Runnable j t
-  pub nonpreemptable : (t : ℕ) → t < mostTasks → modeOf j t ≡ nonPreemptable → (runOf p t < p .count) × (runs p (runOf p t) ≡ t)
+  pub nonpreemptable : (t : ℕ) → t < mostTasks → modeOf j t ≡ nonPreemptable
+      → (runOf p t < p .count) × (runs p (runOf p t) ≡ t)
 
 -- t is linked but not running
 pub record LinkedOnly (p : Processors) (t : ℕ) : Type 0 where

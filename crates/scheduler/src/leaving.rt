@@ -50,7 +50,8 @@ fn higher_task(
     best: u8,
 ) -> u8
     ensures { λ r. ⌜ r ≡ better
-        (isUnlinked p (jobsFrom [] (now (modes .entry)))) (isHigher (jobsFrom (now (ranks .entry)) [])) mostTasks t best ⌝ }
+        (isUnlinked p (jobsFrom [] (now (modes .entry)))) (isHigher (jobsFrom (now (ranks .entry)) []))
+        mostTasks t best ⌝ }
 {
     if is_unlinked(p, modes, t) {
         if best == Jobs::END {
@@ -132,8 +133,8 @@ fn leave_from(
     }
 }
 
-// The job of `t` has finished or is suspended, and the tables have it so: it leaves its processor. Of the `tasks` tasks
-// that there are one may come instead.
+// The job of `t` has finished or is suspended, and the tables have it so: it leaves its processor. Of the `tasks`
+// tasks that there are one may come instead.
 pub fn leave(
     p: Processors,
     ranks: &[u64; Jobs::LIMIT],
@@ -151,7 +152,8 @@ pub fn leave(
     }
 }
 
-// The priority of `t` is restored, and the tables have it so: a higher job of the `tasks` tasks may take its processor.
+// The priority of `t` is restored, and the tables have it so: a higher job of the `tasks` tasks may take its
+// processor.
 pub fn give_way(
     p: Processors,
     ranks: &[u64; Jobs::LIMIT],

@@ -19,7 +19,8 @@ unfoldable pub digits : ℕ → ℕ → List ℕ
 digits zero n = []
 digits (suc k) n = (if ltb n 10 then [] else digits k (n / 10)) ++ digit n
 
--- what a row of decimal digits says, read from the left behind what was read before; a digit's code is 48 more than its value
+-- what a row of decimal digits says, read from the left behind what was read before; a digit's code is 48 more than
+-- its value
 abbrev pub valueBehind : ℕ → List ℕ → ℕ
 valueBehind before [] = before
 valueBehind before (d ∷ digits) = valueBehind (10 * before + (d - 48)) digits

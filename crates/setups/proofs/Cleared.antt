@@ -4,13 +4,14 @@ use native.Mathlib.Omega.{arith}
 use native.Mathlib.Decide.{decLt}
 use mathlib.Core.Path.{_≡_, refl, sym, ap, _∙_}
 use mathlib.Core.Bool.{Bool, true, false, not, _&&_}
-use mathlib.Core.List.{List, []}
+use mathlib.Core.List.{List}
 use lib.Dec.{ltb}
 use lib.ListN.{length, getD}
 use borrow.Author.Tests.{ltb-true, ltb-false, lt-ltb, le-ltb}
 use Rattle.search.specs.Words.{if_then_else_, _is_}
 use Rattle.search.specs.Below.{anyBelow}
-use Rattle.numbers.specs.Rows.{_when_, _otherwise_, firstOf}
+use Rattle.numbers.specs.Refusals.{countOutside, periodZero, kindUnknown, pairStray, longInShort}
+use Rattle.numbers.proofs.Refusals.{row-same}
 use Rattle.search.proofs.Tables.{table-length, table-at, table-of}
 use Rattle.search.proofs.Tests.{tests}
 use Rattle.numbers.specs.Limits.{mostTasks, mostResources, mostPairs}
@@ -67,16 +68,6 @@ some-same n zero f g h = refl
 some-same n (suc k) f g h =
     let last = and-same (ltb k n) (f k) (g k) (λ e. h k (ltb-true k n e) (omega arith)) in
     rw (some-same n k f g (λ i l m. h i l (omega arith)), last)
-
--- the last of the five rows counts only where the first and the fourth do not apply
-last-row : (a b d e f g : Bool) → (a ≡ false → e ≡ false → f ≡ g)
-    → firstOf (1 when a otherwise 2 when b otherwise 3 when d otherwise 4 when e otherwise 5 when f otherwise [])
-    ≡ firstOf (1 when a otherwise 2 when b otherwise 3 when d otherwise 4 when e otherwise 5 when g otherwise [])
-last-row true b d e f g h = refl
-last-row false true d e f g h = refl
-last-row false false true e f g h = refl
-last-row false false false true f g h = refl
-last-row false false false false f g h = rw (h refl refl)
 
 module _ (c : Setup) where
   -- its tables have their lengths, whatever those of c are
@@ -147,8 +138,12 @@ module _ (c : Setup) where
 
   refusal-same : setupRefusal (cleared c) ≡ setupRefusal c
   unfolding setupRefusal setupRows cleared
-  refusal-same = rw (periods-same, kinds-same, inside-same)
-      (last-row (not (inLimits c)) (someTask c (λ t. period c t is 0)) (someResource c (λ r. ltb long (kind c r))) (somePair c (isStray c)) _ _ nesting-same)
+  refusal-same =
+      row-same countOutside refl (λ few.
+      row-same periodZero periods-same (λ _.
+      row-same kindUnknown kinds-same (λ _.
+      row-same pairStray inside-same (λ stray.
+      row-same longInShort (nesting-same few (sym inside-same ∙ stray)) (λ _. refl)))))
 
   -- ---- the names
   alike-kept : (a b : ℕ) → max a b < mostResources → areAlike (cleared c) a b ≡ areAlike c a b

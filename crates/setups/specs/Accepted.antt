@@ -14,6 +14,7 @@ pub record Accepted (c : Setup) : Type 0 where
   pub pairs : c .pairs ≤ mostPairs
   pub periods : (t : ℕ) → t < c .tasks → period c t ≢ 0
   pub kinds : (r : ℕ) → r < c .resources → kind c r ≤ long
-  pub inside : (i : ℕ) → i < c .pairs → (outerOf c i < c .resources) × (innerOf c i < c .resources) × (outerOf c i ≢ innerOf c i)
+  pub inside : (i : ℕ) → i < c .pairs
+      → (outerOf c i < c .resources) × (innerOf c i < c .resources) × (outerOf c i ≢ innerOf c i)
   -- a short holds no long
   pub nesting : (i : ℕ) → i < c .pairs → kind c (outerOf c i) ≡ short → kind c (innerOf c i) ≢ long

@@ -22,7 +22,8 @@ module _ (c : Setup) where
   abbrev pub areAlike : ℕ → ℕ → Bool
   areAlike a b = ltb a (c .resources) && ltb b (c .resources) && kind c a is kind c b
 
-  -- a pair of equal kinds puts both resources in one group; a pair that names a resource not in the table joins nothing
+  -- a pair of equal kinds puts both resources in one group; a pair that names a resource not in the table joins
+  -- nothing
   abbrev pub isJoining : ℕ → Bool
   isJoining i = ltb i (c .pairs) && areAlike (outerOf c i) (innerOf c i)
 

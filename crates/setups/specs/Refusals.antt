@@ -16,8 +16,11 @@ abbrev pub isStrayPair : ℕ → ℕ → ℕ → Bool
 isStrayPair n a b = leb n a || leb n b || a is b
 
 module _ (c : Setup) where
+  -- every count is within its limits
   abbrev pub inLimits : Bool
-  inLimits = within 1 (c .processors) mostProcessors && within 1 (c .tasks) mostTasks && leb (c .resources) mostResources && leb (c .pairs) mostPairs
+  inLimits =
+      within 1 (c .processors) mostProcessors && within 1 (c .tasks) mostTasks
+      && leb (c .resources) mostResources && leb (c .pairs) mostPairs
 
   -- pair i names a resource not in the table, or one resource twice
   abbrev pub isStray : ℕ → Bool

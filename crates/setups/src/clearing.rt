@@ -32,17 +32,12 @@ pub fn clear(setup: Setup) -> Setup
     clear_from(&mut kinds, setup.resources);
     clear_from(&mut outer, setup.pairs);
     clear_from(&mut inner, setup.pairs);
-    Setup {
-        processors: setup.processors,
-        tasks: setup.tasks,
-        resources: setup.resources,
-        pairs: setup.pairs,
-        start: setup.start,
-        periods,
-        kinds,
-        outer,
-        inner,
-    }
+    let mut next = setup;
+    next.periods = periods;
+    next.kinds = kinds;
+    next.outer = outer;
+    next.inner = inner;
+    next
 }
 
 // The places from `count` on are 0.

@@ -78,7 +78,8 @@ fn has_long_in_short(setup: Setup) -> bool
     some
 }
 
-// The first refusal that applies, or 0. The rows come from the last to the first, as each needs what the later ones give.
+// The first refusal that applies, or 0. The rows come from the last to the first, as each needs what the later ones
+// give.
 pub fn judge_setup(setup: Setup) -> u8
     ensures { λ r. ⌜ r ≡ setupRefusal setup ⌝ }
 {

@@ -1,14 +1,20 @@
--- What the clauses of the open requests say of the request at one place, from the small tables that the code reads.
+-- What the clauses of the open requests and of the queues say of one place, over the small tables that the code reads.
 use Prim.Native.Nat.{ℕ}
-use mathlib.Core.Bool.{Bool}
+use mathlib.Core.Bool.{Bool, _&&_}
 use mathlib.Core.List.{List}
+use lib.Dec.{leb, ltb}
 use lib.ListN.{getD}
 use Rattle.search.specs.Words.{_is_, _implies_}
 use Rattle.search.specs.Below.{allBelow}
 use Rattle.input.specs.Kinds.{long}
-use Rattle.numbers.specs.Limits.{nothing}
+use Rattle.numbers.specs.Limits.{nobody, nothing}
+use Rattle.protocol.specs.Words.{absent, spinning}
 
--- the request at place i stands at no other place
+-- resource r is in the table, and t holds its group
+abbrev pub isHeld : List ℕ → List ℕ → ℕ → ℕ → ℕ → Bool
+isHeld holders groups resources t r = ltb r resources && getD holders (getD groups r nothing) nobody is t
+
+-- the request at place i is at no other place
 abbrev pub isOnce : List ℕ → ℕ → ℕ → Bool
 isOnce requests depth i = allBelow depth (λ k. getD requests i nothing is getD requests k nothing implies i is k)
 
@@ -16,9 +22,15 @@ isOnce requests depth i = allBelow depth (λ k. getD requests i nothing is getD 
 abbrev pub isLong : List ℕ → List ℕ → ℕ → Bool
 isLong kinds requests i = getD kinds (getD requests i nothing) 0 is long
 
+-- resources a and b, where they are of one kind, are in one group
+abbrev pub areTogether : List ℕ → List ℕ → ℕ → ℕ → Bool
+areTogether kinds groups a b = getD kinds a 0 is getD kinds b 0 implies getD groups a nothing is getD groups b nothing
+
 -- the requests of the kind of the one at place i are in its group
 abbrev pub isTogether : List ℕ → List ℕ → List ℕ → ℕ → ℕ → Bool
 isTogether kinds groups requests depth i =
-    allBelow
-    depth
-    (λ k. getD kinds (getD requests i nothing) 0 is getD kinds (getD requests k nothing) 0 implies getD groups (getD requests i nothing) nothing is getD groups (getD requests k nothing) nothing)
+    allBelow depth (λ k. areTogether kinds groups (getD requests i nothing) (getD requests k nothing))
+
+-- task t waits, and for what is in group g
+abbrev pub waitsIn : List ℕ → List ℕ → List ℕ → ℕ → ℕ → Bool
+waitsIn stands asked groups g t = leb spinning (getD stands t absent) && getD groups (getD asked t nothing) nothing is g

@@ -17,10 +17,12 @@ use Rattle.priorities.specs.Bounds.{jobsIn}
 
 -- the set-up, the clock and the times
 abbrev pub frameSound : State → Bool
-frameSound s = setupRefusal (s .setup) is 0 && isClear (s .setup) && clockSound (s .setup) s && allBelow mostTasks (timesSound (s .setup) s)
+frameSound s =
+    setupRefusal (s .setup) is 0 && isClear (s .setup)
+    && clockSound (s .setup) s && allBelow mostTasks (timesSound (s .setup) s)
 
--- where they hold, the view that the code tells is the rule's, whatever the depths and queues; known from the types: how
--- long the table of tasks is, and that a period has two bytes
+-- where they hold, the ranks and modes that the code computes are the rule's, whatever the depths and queues; known
+-- from the types: how long the table of tasks is, and that a period has two bytes
 abbrev pub ViewIsRuled : Type 0
 ViewIsRuled =
     (s : State) → length (s .tasks) ≡ mostTasks → ((t : ℕ) → period (s .setup) t < 65536) → frameSound s ≡ true
@@ -28,7 +30,9 @@ ViewIsRuled =
 
 -- the open requests, the waiting jobs and the groups
 abbrev pub locksSound : State → Bool
-locksSound s = allBelow mostTasks (requestsSound (s .setup) s) && allBelow mostTasks (waitingSound (s .setup) s) && allBelow mostResources (groupSound (s .setup) s)
+locksSound s =
+    allBelow mostTasks (requestsSound (s .setup) s) && allBelow mostTasks (waitingSound (s .setup) s)
+    && allBelow mostResources (groupSound (s .setup) s)
 
 -- links and placements
 abbrev pub placementSound : State → Bool

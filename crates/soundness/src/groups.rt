@@ -20,6 +20,7 @@ ghost use Rattle.numbers.specs.Limits.{mostTasks, mostResources, mostRequests, 
 ghost use Rattle.setups.specs.Naming.{names};
 ghost use Rattle.protocol.specs.Words.{absent, spinning, stand, task as taskRecord, group as groupRecord, asked as askedBy};
 ghost use Rattle.protocol.specs.Sound.{requestsSound, groupSound};
+ghost use Rattle.soundness.specs.Opens.{waitsIn};
 
 // Some open request is in group `g`.
 fn some_in(
@@ -47,7 +48,7 @@ fn all_wait_here(
     g: u8,
 ) -> bool
     requires { ⌜ queue .len ≤ capacity ⌝ }
-    ensures { λ r. ⌜ r ≡ allBelow (queue .len) (λ i. leb spinning (getD stands (waiter queue i) absent) && getD groups (getD asked (waiter queue i) nothing) nothing is g) ⌝ }
+    ensures { λ r. ⌜ r ≡ allBelow (queue .len) (λ i. waitsIn stands asked groups g (waiter queue i)) ⌝ }
 {
     let mut ok = true;
     for i in 0..queue.len {

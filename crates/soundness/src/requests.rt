@@ -16,7 +16,7 @@ ghost use Rattle.setups.specs.Naming.{names, groupOf};
 ghost use Rattle.protocol.specs.Words.{spinning, group, holder, task as taskRecord, stand as standOf, asked as askedBy};
 ghost use Rattle.protocol.specs.Records.{noGroup};
 ghost use Rattle.protocol.specs.Sound.{requestsSound, waitingSound};
-ghost use Rattle.soundness.specs.Opens.{isOnce, isLong, isTogether};
+ghost use Rattle.soundness.specs.Opens.{isHeld, isOnce, isLong, isTogether};
 
 // Each open request is in the table, and `t` holds its group.
 fn all_held(
@@ -28,7 +28,7 @@ fn all_held(
     t: u8,
 ) -> bool
     requires { ⌜ depth ≤ mostRequests ⌝ }
-    ensures { λ r. ⌜ r ≡ allBelow depth (λ i. ltb (getD requests i nothing) resources && getD holders (getD groups (getD requests i nothing) nothing) nobody is t) ⌝ }
+    ensures { λ r. ⌜ r ≡ allBelow depth (λ i. isHeld holders groups resources t (getD requests i nothing)) ⌝ }
 {
     let mut ok = true;
     for i in 0..depth {
@@ -166,7 +166,8 @@ pub fn all_requests(
     groups: [u8; Setup::RESOURCES],
     holders: [u8; Setup::RESOURCES],
 ) -> bool
-    requires { ⌜ (groups ≡ names (state .setup)) × (holders ≡ table (λ g. getD (state .groups) g noGroup .holder) mostResources) ⌝ }
+    requires { ⌜ (groups ≡ names (state .setup))
+        × (holders ≡ table (λ g. getD (state .groups) g noGroup .holder) mostResources) ⌝ }
     ensures { λ r. ⌜ r ≡ allBelow mostTasks (requestsSound (state .setup) state) ⌝ }
 {
     let setup = state.setup;
@@ -179,8 +180,8 @@ pub fn all_requests(
     ok
 }
 
-// Task `t`, where it waits, by its record, how it stands, what it asked for, the queue there, and the kinds and the number
-// of the resources.
+// Task `t`, where it waits, by its record, how it stands, what it asked for, the queue there, and the kinds and the
+// number of the resources.
 fn waiting_holds(
     task: Task,
     stand: u8,

@@ -38,8 +38,8 @@ fn locks_hold(state: State, naming: [u8; Setup::RESOURCES]) -> bool
     }
 }
 
-// Links and placements. The ranks are the rule's only within their bounds, which the set-up, the clock and the times see
-// to.
+// Links and placements. The ranks are the rule's only within their bounds, which the set-up, the clock and the times
+// see to.
 fn placement_holds(state: State) -> bool
     requires { ⌜ frameSound state ≡ true ⌝ }
     ensures { λ r. ⌜ r ≡ placementSound state ⌝ }

@@ -1,28 +1,68 @@
-// The stepping program: blocks from standard input, a page of lines for each to standard output.
+// The stepping program: blocks from standard input, a page of lines for each to standard output. What went wrong is
+// said in one line on standard error: `not read`, `not written`, or `refused`, of a block or the set-up.
 use blocks::Block;
+use libc::STDERR_FILENO;
 use libc::STDIN_FILENO;
 use libc::STDOUT_FILENO;
 use pages::Page;
 use pages::Session;
 
-// Reads the next block, writes the page of what came, and gives the session after it.
-fn take_block(session: Session, block: &mut [u8], out: &mut [u8]) -> Session {
+// The session after a block, and whether the program's work ends there.
+struct Taken {
+    session: Session,
+    over: bool,
+}
+
+// Whether the input cannot be read. At its end it can.
+fn is_unreadable() -> bool {
+    let mut byte = [0u8; 1];
+    libc::read(STDIN_FILENO, &mut byte) < 0
+}
+
+// Writes a page, of which the session after it says whether something was refused; gives whether the work ends.
+fn write_page(text: &[u8], session: Session) -> bool {
+    if !io::write_all(STDOUT_FILENO, text) {
+        io::write_all(STDERR_FILENO, b"not written\n");
+        return true;
+    }
+    if session.refused {
+        io::write_all(STDERR_FILENO, b"refused\n");
+    }
+    session.over
+}
+
+// Reads the next block, writes the page of what came, and gives the session after it. A short block is the last one,
+// so that a byte read behind it is none of the next.
+fn take_block(session: Session, block: &mut [u8], out: &mut [u8]) -> Taken {
     let got = io::read_full(STDIN_FILENO, block);
+    if got < block.len() && is_unreadable() {
+        io::write_all(STDERR_FILENO, b"not read\n");
+        return Taken {
+            session,
+            over: true,
+        };
+    }
     let page = pages::next_page(session, &block[..got], out);
     let len = page.len;
-    io::write_all(STDOUT_FILENO, &out[0..len]);
-    page.session
+    let next = page.session;
+    Taken {
+        session: next,
+        over: write_page(&out[0..len], next),
+    }
 }
 
 fn main() {
     let mut block = [0u8; Block::SIZE];
     let mut out = [0u8; Page::LIMIT];
     let mut session = pages::begin();
+    let mut over = false;
     // One block more than there may be, and the input's end.
     let mut left = Block::LAST_INDEX + 3;
-    while left > 0 && !session.over {
-        let next = take_block(session, &mut block, &mut out);
+    while left > 0 && !over {
+        let taken = take_block(session, &mut block, &mut out);
+        let next = taken.session;
         session = next;
+        over = taken.over;
         left -= 1;
     }
 }

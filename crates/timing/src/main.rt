@@ -1,9 +1,9 @@
-// What single calls take: standard input has a block file and orders for calls, standard output tells what came of each
-// order. bench/run times it with many calls and with none.
+// What single calls take: standard input has a block file and orders for calls, standard output tells what came of
+// each order. bench/run times it with many calls and with none.
 //
-// The input: one byte, how many blocks of events are played first; the block of the set-up; those blocks; the block that
-// the calls are about; then orders, three bytes each, up to the input's end: what is called, and how many hundred times,
-// low byte first.
+// The input: one byte, how many blocks of events are played first; the block of the set-up; those blocks; the block
+// that the calls are about; then orders, three bytes each, up to the input's end: what is called, and how many
+// hundred times, low byte first.
 use blocks::Block;
 use libc::STDIN_FILENO;
 use libc::STDOUT_FILENO;

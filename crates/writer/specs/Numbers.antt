@@ -1,5 +1,5 @@
--- Ticket 1 and document 01, 'Numbers handed back': each number of the writer is given exactly when its row is the first
--- that applies, and 0 when none does. Row 0 is the output block's own. On refusal that block stays as lent.
+-- Ticket 1 and document 01, 'Numbers handed back': each number of the writer is given exactly when its row is the
+-- first that applies, and 0 when none does. Row 0 is the output block's own. On refusal that block stays as lent.
 use Prim.Native.Nat.{ℕ}
 use mathlib.Core.Path.{_≡_}
 use mathlib.Core.List.{List}

@@ -8,10 +8,10 @@ use Rattle.step.proofs.main.Statement.{statement}
 use Rattle.step.proofs.main.Tie as tie
 
 abbrev Inv-loop : tie.InvT-loop
-Inv-loop block₀ out₀ session₀ left₀ block out session left = (length block ≡ blockSize) × (length out ≡ mostEvents * lineLimit)
+Inv-loop block₀ out₀ session₀ over₀ left₀ block out session over left = (length block ≡ blockSize) × (length out ≡ mostEvents * lineLimit)
 
 abbrev μ-loop : tie.MeasureT-loop
-μ-loop block₀ out₀ session₀ left₀ block out session left = left
+μ-loop block₀ out₀ session₀ over₀ left₀ block out session over left = left
 
 begin-requires : tie.Need-begin-requires Inv-loop μ-loop
 begin-requires c κs = search needs
