@@ -20,10 +20,10 @@ use Rattle.protocol.specs.Refusals.{stepOf, eventRows, judge}
 use Rattle.protocol.specs.Locks.{nextAt}
 use Rattle.protocol.specs.Events.{charged, stepBy, step}
 use Rattle.protocol.specs.declared.State.{State}
-use Rattle.protocol.proofs.Statements.{Sound}
-use Rattle.protocol.proofs.Reflect.{Shaped, sound-of-test}
-use Rattle.protocol.proofs.Dates.{charged-times}
-use Rattle.protocol.proofs.Step.{event-kinds, row11, row12, grouped, steady-of, asks-of, ends-of}
+use Rattle.protocol.proofs.Sound.Statements.{Sound}
+use Rattle.protocol.proofs.Sound.Reflect.{Shaped, sound-of-test}
+use Rattle.protocol.proofs.Events.Times.{charged-times}
+use Rattle.protocol.proofs.Events.Step.{event-kinds, row11, row12, grouped, steady-of, asks-of, ends-of}
 use Rattle.priorities.specs.Bounds.{isBounded}
 use Rattle.locking.specs.Acting.{CanPass, CanAct}
 use Rattle.locking.proofs.Bounded.{within-bounds}

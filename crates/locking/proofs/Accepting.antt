@@ -36,8 +36,8 @@ use Rattle.protocol.specs.Events.{charged, stepBy, step}
 use Rattle.protocol.specs.declared.Task.{Task}
 use Rattle.protocol.specs.declared.Group.{Group}
 use Rattle.protocol.specs.declared.State.{State}
-use Rattle.protocol.proofs.Statements.{Sound}
-use Rattle.protocol.proofs.Step.{grouped, event-kinds, row11}
+use Rattle.protocol.proofs.Sound.Statements.{Sound}
+use Rattle.protocol.proofs.Events.Step.{grouped, event-kinds, row11}
 use Rattle.locking.specs.Acting.{CanAct}
 use Rattle.priorities.specs.Bounds.{latest, isBounded, rankBy, modeIn, rankWith}
 use Rattle.priorities.proofs.Bounding.{deadline-bounded}

@@ -16,9 +16,9 @@ use Rattle.protocol.specs.Sound.{sound}
 use Rattle.protocol.specs.Events.{step}
 use Rattle.protocol.specs.declared.State.{State}
 use Rattle.protocol.specs.declared.Reply.{Reply}
-use Rattle.protocol.proofs.Statements.{Sound}
-use Rattle.protocol.proofs.Reflect.{Shaped, sound-of-test, test-of-sound}
-use Rattle.protocol.proofs.Step.{step-sound, step-setup}
+use Rattle.protocol.proofs.Sound.Statements.{Sound}
+use Rattle.protocol.proofs.Sound.Reflect.{Shaped, sound-of-test, test-of-sound}
+use Rattle.protocol.proofs.Events.Step.{step-sound, step-setup}
 use Rattle.states.specs.Writing.{snapshotSize, places, snapshotOf, written}
 use Rattle.locking.specs.Playing.{playable, playedTo, replyTo, writtenTo, played}
 use Rattle.locking.proofs.Accepted.{unsound-stepped}

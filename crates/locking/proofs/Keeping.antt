@@ -23,7 +23,7 @@ use Rattle.protocol.specs.Events.{counting, charged}
 use Rattle.protocol.specs.declared.Task.{Task}
 use Rattle.protocol.specs.declared.Group.{Group}
 use Rattle.protocol.specs.declared.State.{State}
-use Rattle.protocol.proofs.Reflect.{Shaped}
+use Rattle.protocol.proofs.Sound.Reflect.{Shaped}
 use Rattle.priorities.specs.Bounds.{isBounded, rankBy, modeIn, rankWith}
 use Rattle.priorities.proofs.Telling.{ranks-ruled, modes-ruled}
 use Rattle.locking.specs.Edits.{put}

@@ -8,7 +8,7 @@ use Rattle.search.proofs.Tables.{table-at, table-front}
 use Rattle.input.specs.Layout.{eventIn, eventCount, eventsIn}
 use Rattle.protocol.specs.Events.{runBy, step, run, replyAt}
 use Rattle.protocol.specs.declared.State.{State}
-use Rattle.protocol.proofs.Step.{run-join}
+use Rattle.protocol.proofs.Events.Step.{run-join}
 use Rattle.locking.specs.Playing.{playedTo, replyTo}
 
 module _ (s : State) (part : List ℕ) where

@@ -20,7 +20,7 @@ use Rattle.protocol.specs.Records.{noTask, noGroup, totalCount}
 use Rattle.protocol.specs.declared.Task.{Task}
 use Rattle.protocol.specs.declared.Group.{Group}
 use Rattle.protocol.specs.declared.State.{State}
-use Rattle.protocol.proofs.Reflect.{Shaped}
+use Rattle.protocol.proofs.Sound.Reflect.{Shaped}
 
 -- what holds of each element of an array, and of what is read past its end, holds at any index
 each-at : {A d : Type 0} (into : A → d) (own : d → List Val → Fml) (P : A → Type 0) → ((x : A) (u : Val) → shadow (own (into x) (u ∷ [])) → P x)

@@ -16,7 +16,7 @@ use Rattle.protocol.specs.Events.{run, replyAt}
 use Rattle.protocol.specs.declared.State.{State}
 use Rattle.protocol.specs.declared.Reply.{Reply}
 use Rattle.states.specs.Writing.{places, snapshotOf}
-use Rattle.protocol.proofs.Step.{run-join}
+use Rattle.protocol.proofs.Events.Step.{run-join}
 use Rattle.locking.specs.Playing.{replyTo, snapshotAt}
 use Rattle.locking.proofs.Runs.{played-snapshots}
 use Rattle.search.specs.Texts.{eachText}

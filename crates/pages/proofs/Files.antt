@@ -22,9 +22,9 @@ use Rattle.protocol.specs.Events.{runBy, plain, run, begin, fresh, after}
 use Rattle.input.specs.Words.{noSetup}
 use Rattle.protocol.specs.Demands.{Given}
 use Rattle.protocol.specs.declared.State.{State}
-use Rattle.protocol.proofs.Statements.{Sound}
-use Rattle.protocol.proofs.Begin.{begin-sound}
-use Rattle.protocol.proofs.Step.{run-sound, run-setup, run-join}
+use Rattle.protocol.proofs.Sound.Statements.{Sound}
+use Rattle.protocol.proofs.Sound.Begin.{begin-sound}
+use Rattle.protocol.proofs.Events.Step.{run-sound, run-setup, run-join}
 use Rattle.protocol.proofs.Theorems.{demand-3-after, totals-sum-after}
 use Rattle.blocks.specs.Sizes.{blockSize, mostEvents}
 use Rattle.blocks.specs.Verdicts.{blockRows, verdict}

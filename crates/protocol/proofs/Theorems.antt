@@ -13,13 +13,13 @@ use Rattle.input.specs.declared.Event.{Event}
 use Rattle.protocol.specs.Records.{noTask, noGroup}
 use Rattle.protocol.specs.Events.{Move, fresh, begin, after}
 use Rattle.protocol.specs.Demands.{Given, LinksHighest, ShortQueue, AlwaysSound, AlwaysDemand3, AlwaysCharges, AlwaysSums, RefusedLeftOut, RefusedKeeps, IsEmpty, RefusedIsEmpty}
-use Rattle.protocol.proofs.Statements.{Sound}
-use Rattle.protocol.proofs.Begin.{begin-sound}
-use Rattle.protocol.proofs.Reflect.{test-of-sound}
-use Rattle.protocol.proofs.Step.{run-sound-by, run-setup-by, refused-out, refused-keeps-by}
-use Rattle.protocol.proofs.Totals.{charges, totals-after}
-use Rattle.protocol.proofs.Holding.{priorities-apart, links-highest, one-holder, chains-end, one-place}
-use Rattle.protocol.proofs.Short.{short-queue}
+use Rattle.protocol.proofs.Sound.Statements.{Sound}
+use Rattle.protocol.proofs.Sound.Begin.{begin-sound}
+use Rattle.protocol.proofs.Sound.Reflect.{test-of-sound}
+use Rattle.protocol.proofs.Events.Step.{run-sound-by, run-setup-by, refused-out, refused-keeps-by}
+use Rattle.protocol.proofs.Demands.Totals.{charges, totals-after}
+use Rattle.protocol.proofs.Demands.SoundStates.{priorities-apart, links-highest, one-holder, chains-end, one-place}
+use Rattle.protocol.proofs.Demands.ShortQueues.{short-queue}
 
 start : (c : Setup) → Given c → Sound (begin c .state)
 start c g = begin-sound c (g .accepted) (g .start)

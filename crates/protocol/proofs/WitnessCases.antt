@@ -31,9 +31,9 @@ use Rattle.protocol.specs.Events.{cold, arrives, leaves, becomesPreempta
 use Rattle.protocol.specs.Cases.{given, event}
 use Rattle.protocol.specs.Demands.{Given, isRunnable, Waiting, WaitsFor, Before, handsOver, completions, ShortQueue}
 use Rattle.protocol.specs.declared.State.{State}
-use Rattle.protocol.proofs.Begin.{begin-sound}
-use Rattle.protocol.proofs.Step.{run-sound-by}
-use Rattle.protocol.proofs.Short.{short-queue}
+use Rattle.protocol.proofs.Sound.Begin.{begin-sound}
+use Rattle.protocol.proofs.Events.Step.{run-sound-by}
+use Rattle.protocol.proofs.Demands.ShortQueues.{short-queue}
 
 -- ---- four processors and a short resource: 0 holds it, 1 and 2 spin, and 3 asks; later 0 and then 1 complete
 abbrev pub queueing : Setup

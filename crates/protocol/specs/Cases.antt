@@ -22,6 +22,7 @@ use Rattle.setups.specs.Clearing.{below, cleared, emptyFrom, isClear}
 use Rattle.input.specs.Kinds.{fieldsOf}
 use Rattle.input.specs.declared.Setup.{Setup}
 use Rattle.input.specs.declared.Event.{Event}
+use Rattle.protocol.specs.Records.{totalCount}
 use Rattle.protocol.specs.Words.{task, stand, asked, deadline, depth, request, holder, len, waiter}
 use Rattle.protocol.specs.Ranks.{own, leastOf, longHeld, effective, shortOpen, jobs}
 use Rattle.protocol.specs.Situations.{situation}

@@ -22,7 +22,7 @@ use Rattle.protocol.specs.Events.{step}
 use Rattle.protocol.specs.declared.Task.{Task}
 use Rattle.protocol.specs.declared.Group.{Group}
 use Rattle.protocol.specs.declared.State.{State}
-use Rattle.protocol.proofs.Reflect.{Shaped, sound-of-test}
+use Rattle.protocol.proofs.Sound.Reflect.{Shaped, sound-of-test}
 use Rattle.states.proofs.Tables.{task-read, group-read}
 use Rattle.states.specs.Writing.{snapshotSize, snapshotOf}
 use Rattle.soundness.specs.declared.Tested.{Tested}

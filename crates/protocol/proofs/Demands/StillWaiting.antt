@@ -20,12 +20,12 @@ use Rattle.protocol.specs.Events.{charged}
 use Rattle.protocol.specs.declared.Standing.the-variants.{Active, Waiting}
 use Rattle.protocol.specs.declared.Task.{Task}
 use Rattle.protocol.specs.declared.State.{State}
-use Rattle.protocol.proofs.Statements.{Sound}
-use Rattle.protocol.proofs.Carry.{at-one}
-use Rattle.protocol.proofs.Views.{same-task, task-at, task-off}
-use Rattle.protocol.proofs.Branches.{request-edit-by, complete-edit-by}
-use Rattle.protocol.proofs.Edited.{Does, by-edit}
-use Rattle.protocol.proofs.Step.{same-of, asks-of, edited-by}
+use Rattle.protocol.proofs.Sound.Statements.{Sound}
+use Rattle.protocol.proofs.Edits.Untouched.{at-one}
+use Rattle.protocol.proofs.Edits.Equations.{same-task, task-at, task-off}
+use Rattle.protocol.proofs.Events.Branches.{request-edit-by, complete-edit-by}
+use Rattle.protocol.proofs.Events.Edited.{Does, by-edit}
+use Rattle.protocol.proofs.Events.Step.{same-of, asks-of, edited-by}
 
 -- w stands as it did, and asks for the same
 abbrev pub Same : State → State → ℕ → Type 0

@@ -27,13 +27,13 @@ use Rattle.protocol.specs.Events.{Prefers, counting, charged, fresh, beg
 use Rattle.protocol.specs.Demands.{Given, accepts, pendingTicks, Charges}
 use Rattle.protocol.specs.declared.Task.{Task}
 use Rattle.protocol.specs.declared.State.{State}
-use Rattle.protocol.proofs.Statements.{Sound}
-use Rattle.protocol.proofs.Views.{task-at, task-off}
-use Rattle.protocol.proofs.Begin.{begin-sound}
-use Rattle.protocol.proofs.Dates.{Dates, Quiet, quiet-with, aged-sum}
-use Rattle.protocol.proofs.Quiets.{request-quiet, complete-quiet}
-use Rattle.protocol.proofs.Edited.{Does, step-does, by-edit}
-use Rattle.protocol.proofs.Step.{grouped, steady-of, same-of, row11, row16, acts-of, asks-of, ends-of, edited-by, refused-by, step-sound-by}
+use Rattle.protocol.proofs.Sound.Statements.{Sound}
+use Rattle.protocol.proofs.Edits.Equations.{task-at, task-off}
+use Rattle.protocol.proofs.Sound.Begin.{begin-sound}
+use Rattle.protocol.proofs.Events.Times.{Dates, Quiet, quiet-with, aged-sum}
+use Rattle.protocol.proofs.Events.TimesKept.{request-quiet, complete-quiet}
+use Rattle.protocol.proofs.Events.Edited.{Does, step-does, by-edit}
+use Rattle.protocol.proofs.Events.Step.{grouped, steady-of, same-of, row11, row16, acts-of, asks-of, ends-of, edited-by, refused-by, step-sound-by}
 
 abbrev pending : State → ℕ → Bool
 pending s t = stand s t isn't absent

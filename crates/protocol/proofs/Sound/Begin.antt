@@ -27,8 +27,8 @@ use Rattle.protocol.specs.Events.{fresh, begin}
 use Rattle.protocol.specs.declared.Task.{Task}
 use Rattle.protocol.specs.declared.Group.{Group}
 use Rattle.protocol.specs.declared.State.{State}
-use Rattle.protocol.proofs.Statements.{Grouped, TimesOk, TaskOk, GroupOk, Sound}
-use Rattle.protocol.proofs.Told.{mode-runs}
+use Rattle.protocol.proofs.Sound.Statements.{Grouped, TimesOk, TaskOk, GroupOk, Sound}
+use Rattle.protocol.proofs.Jobs.Modes.{mode-runs}
 
 module _ (c : Setup) (s : State) where
   module _ (t : ℕ) (e : task s t ≡ noTask) where

@@ -24,7 +24,7 @@ use Rattle.protocol.specs.declared.Standing.the-variants.{Active, Waitin
 use Rattle.protocol.specs.declared.Task.{Task}
 use Rattle.protocol.specs.declared.Group.{Group}
 use Rattle.protocol.specs.declared.State.{State}
-use Rattle.protocol.proofs.Statements.{Sized, Blank, SameTask, SameGroup, Opens, Queues, Calls, Closes, Stands}
+use Rattle.protocol.proofs.Sound.Statements.{Sized, Blank, SameTask, SameGroup, Opens, Queues, Calls, Closes, Stands}
 
 -- ---- a part that is the same
 pub same-task : (s s′ : State) (u : ℕ) → task s′ u ≡ task s u → SameTask s s′ u

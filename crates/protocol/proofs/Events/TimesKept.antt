@@ -17,10 +17,10 @@ use Rattle.protocol.specs.Locks.{opening, closing, onTask, lockOf, opens
 use Rattle.protocol.specs.Edited.{requestEdit, completeEdit}
 use Rattle.protocol.specs.declared.Standing.the-variants.{Active, Waiting}
 use Rattle.protocol.specs.declared.State.{State}
-use Rattle.protocol.proofs.Statements.{Grouped, Steady, Ends}
-use Rattle.protocol.proofs.Dates.{Quiet, quiet-then, quiet-task, quiet-group}
-use Rattle.protocol.proofs.Branches.{request-edit-by, complete-edit-by}
-use Rattle.protocol.proofs.Steps.{kind-none, first-stands}
+use Rattle.protocol.proofs.Sound.Statements.{Grouped, Steady, Ends}
+use Rattle.protocol.proofs.Events.Times.{Quiet, quiet-then, quiet-task, quiet-group}
+use Rattle.protocol.proofs.Events.Branches.{request-edit-by, complete-edit-by}
+use Rattle.protocol.proofs.Events.Kept.{kind-none, first-stands}
 
 -- ---- the edits
 opens-quiet : (t r g : ℕ) (s : State) → Quiet s (opens t r g s)

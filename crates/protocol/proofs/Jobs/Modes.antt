@@ -21,8 +21,8 @@ use Rattle.protocol.specs.declared.State.{State}
 use Rattle.protocol.specs.declared.Standing.{Standing}
 use Rattle.protocol.specs.declared.Standing.the-variants.{Absent, Active, Waiting}
 use Rattle.protocol.specs.declared.Lock.the-variants.{Short, Long}
-use Rattle.protocol.proofs.Statements.{Grouped, LocksBut, SameTask}
-use Rattle.protocol.proofs.Ranks.{ranks-apart}
+use Rattle.protocol.proofs.Sound.Statements.{Grouped, LocksBut, SameTask}
+use Rattle.protocol.proofs.Jobs.Ranks.{ranks-apart}
 
 -- ---- a short request is open
 module _ (c : Setup) (s : State) (t : ℕ) where

@@ -16,8 +16,8 @@ use Rattle.input.specs.declared.Setup.{Setup}
 use Rattle.protocol.specs.Words.{spinning, suspended, stand, asked, deadline, depth, request, holder, len, waiter}
 use Rattle.protocol.specs.Ranks.{own, leastOf, longHeld, effective}
 use Rattle.protocol.specs.declared.State.{State}
-use Rattle.protocol.proofs.Statements.{Grouped, LocksBut, SameGroup}
-use Rattle.protocol.proofs.Edits.{pending-in, no-queue}
+use Rattle.protocol.proofs.Sound.Statements.{Grouped, LocksBut, SameGroup}
+use Rattle.protocol.proofs.Edits.Locks.{pending-in, no-queue}
 
 -- ---- the least
 record Least (f : ℕ → ℕ) (n a e : ℕ) : Type 0 where

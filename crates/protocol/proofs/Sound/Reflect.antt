@@ -21,8 +21,8 @@ use Rattle.protocol.specs.Records.{noTask, noGroup}
 use Rattle.protocol.specs.Ranks.{jobs}
 use Rattle.protocol.specs.Sound.{clockSound, timesSound, requestsSound, waitingSound, groupSound, emptySound, sound}
 use Rattle.protocol.specs.declared.State.{State}
-use Rattle.protocol.proofs.Statements.{TimesOk, Waits, TaskOk, GroupOk, Sized, Blank, Sound}
-use Rattle.protocol.proofs.Begin.{no-task-times, no-task-locks, no-task-blank, no-group-locks, no-group-tidy}
+use Rattle.protocol.proofs.Sound.Statements.{TimesOk, Waits, TaskOk, GroupOk, Sized, Blank, Sound}
+use Rattle.protocol.proofs.Sound.Begin.{no-task-times, no-task-locks, no-task-blank, no-group-locks, no-group-tidy}
 
 -- the lengths of the arrays, which the types know
 pub record Shaped (s : State) : Type 0 where

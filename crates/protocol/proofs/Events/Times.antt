@@ -31,12 +31,12 @@ use Rattle.protocol.specs.declared.Situation.{Situation}
 use Rattle.protocol.specs.declared.Situation.the-variants.{Running, Spinning, LinkedOnly, Ready, Suspended}
 use Rattle.protocol.specs.declared.Task.{Task}
 use Rattle.protocol.specs.declared.State.{State}
-use Rattle.protocol.proofs.Statements.{Grouped, TimesOk, Times, Sized, Steady, SameTask, SameGroup}
-use Rattle.protocol.proofs.Carry.{at-one}
-use Rattle.protocol.proofs.Ranks.{rank-same}
-use Rattle.protocol.proofs.Told.{mode-kept, rank-kept}
-use Rattle.protocol.proofs.Views.{same-group, same-own, task-at, task-off}
-use Rattle.protocol.proofs.Blanks.{same-gone, same-locks}
+use Rattle.protocol.proofs.Sound.Statements.{Grouped, TimesOk, Times, Sized, Steady, SameTask, SameGroup}
+use Rattle.protocol.proofs.Edits.Untouched.{at-one}
+use Rattle.protocol.proofs.Jobs.Ranks.{rank-same}
+use Rattle.protocol.proofs.Jobs.Modes.{mode-kept, rank-kept}
+use Rattle.protocol.proofs.Edits.Equations.{same-group, same-own, task-at, task-off}
+use Rattle.protocol.proofs.Edits.EmptyPlaces.{same-gone, same-locks}
 
 abbrev pub Dates : Type 0
 Dates = Bool × ℕ × ℕ × List ℕ

@@ -35,14 +35,14 @@ use Rattle.protocol.specs.Records.{withProcessors}
 use Rattle.protocol.specs.Events.{Prefers, cold, arrives, leaves, becomesPreemptable, givesWay, arriveEvent, finishEvent, requestEvent, completeEvent, charged, act, Move, moved, stepBy, runBy, step, plain, run}
 use Rattle.protocol.specs.declared.Situation.the-variants.{NoJob, Running, Spinning, LinkedOnly, Ready, Suspended}
 use Rattle.protocol.specs.declared.State.{State}
-use Rattle.protocol.proofs.Statements.{Grouped, Times, Steady, Sound, Acts, Asks, Ends, SameTask}
-use Rattle.protocol.proofs.Begin.{accepted-grouped}
-use Rattle.protocol.proofs.Branches.{kind-by, request-by, complete-by}
-use Rattle.protocol.proofs.Edited.{Does, step-does, by-edit}
-use Rattle.protocol.proofs.Told.{mode-runs}
-use Rattle.protocol.proofs.Steps.{with-steady, Rests, arrive-steady, arrive-placed, finish-steady, finish-placed, request-steady, request-placed, complete-steady, complete-placed}
-use Rattle.protocol.proofs.Dates.{Quiet, quiet-with, quiet-times, same-aged, charged-steady, charged-placed, charged-times, comes-times, goes-times}
-use Rattle.protocol.proofs.Quiets.{request-quiet, complete-quiet}
+use Rattle.protocol.proofs.Sound.Statements.{Grouped, Times, Steady, Sound, Acts, Asks, Ends, SameTask}
+use Rattle.protocol.proofs.Sound.Begin.{accepted-grouped}
+use Rattle.protocol.proofs.Events.Branches.{kind-by, request-by, complete-by}
+use Rattle.protocol.proofs.Events.Edited.{Does, step-does, by-edit}
+use Rattle.protocol.proofs.Jobs.Modes.{mode-runs}
+use Rattle.protocol.proofs.Events.Kept.{with-steady, Rests, arrive-steady, arrive-placed, finish-steady, finish-placed, request-steady, request-placed, complete-steady, complete-placed}
+use Rattle.protocol.proofs.Events.Times.{Quiet, quiet-with, quiet-times, same-aged, charged-steady, charged-placed, charged-times, comes-times, goes-times}
+use Rattle.protocol.proofs.Events.TimesKept.{request-quiet, complete-quiet}
 
 -- ---- which fields a kind uses
 uses-task : (k : ℕ) → (arrival ≤ k) × (k ≤ completion) → fieldsOf k .task ≡ true

@@ -20,9 +20,9 @@ use Rattle.protocol.specs.Records.{withProcessors}
 use Rattle.protocol.specs.declared.Task.{Task}
 use Rattle.protocol.specs.declared.Group.{Group}
 use Rattle.protocol.specs.declared.State.{State}
-use Rattle.protocol.proofs.Statements.{LocksBut, Sized, Blank, SameTask, SameGroup, Closes, Stands}
-use Rattle.protocol.proofs.Carry.{at-one, task-carry, group-carry, stays-in}
-use Rattle.protocol.proofs.Views.{group-at, group-off, opens-view, enqueues-view, dequeues-view, closes-view, frees-view, with-task, with-group}
+use Rattle.protocol.proofs.Sound.Statements.{LocksBut, Sized, Blank, SameTask, SameGroup, Closes, Stands}
+use Rattle.protocol.proofs.Edits.Untouched.{at-one, task-carry, group-carry, stays-in}
+use Rattle.protocol.proofs.Edits.Equations.{group-at, group-off, opens-view, enqueues-view, dequeues-view, closes-view, frees-view, with-task, with-group}
 
 -- no request of u stands past its depth
 abbrev pub Gone : State → ℕ → Type 0

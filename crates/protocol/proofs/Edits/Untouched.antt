@@ -9,7 +9,7 @@ use Rattle.input.specs.declared.Setup.{Setup}
 use Rattle.numbers.specs.Limits.{nobody}
 use Rattle.protocol.specs.Words.{spinning, stand, asked, depth, request, holder, len, waiter}
 use Rattle.protocol.specs.declared.State.{State}
-use Rattle.protocol.proofs.Statements.{OpenOk, TaskOk, GroupOk, SameTask, SameGroup}
+use Rattle.protocol.proofs.Sound.Statements.{OpenOk, TaskOk, GroupOk, SameTask, SameGroup}
 
 -- by whether a number is t
 pub at-one : (P : ℕ → Type 0) (t : ℕ) → P t → ((u : ℕ) → u ≢ t → P u) → (u : ℕ) → P u

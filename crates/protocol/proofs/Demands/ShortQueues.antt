@@ -29,19 +29,19 @@ use Rattle.protocol.specs.Records.{withProcessors}
 use Rattle.protocol.specs.Events.{Prefers, charged, Move, moved, stepBy, runBy}
 use Rattle.protocol.specs.Demands.{Before, handsOver, completions, ShortQueue}
 use Rattle.protocol.specs.declared.State.{State}
-use Rattle.protocol.proofs.Statements.{Grouped, Steady, Sound, Asks}
-use Rattle.protocol.proofs.Views.{same-group, with-group, opens-view, closes-view}
-use Rattle.protocol.proofs.Branches.{request-edit-by}
-use Rattle.protocol.proofs.Edited.{Does, step-does, by-edit}
-use Rattle.protocol.proofs.Edits.{pending-in}
-use Rattle.protocol.proofs.Told.{short-same}
-use Rattle.protocol.proofs.Dates.{same-lines}
-use Rattle.protocol.proofs.Demands.{few-at-short}
-use Rattle.protocol.proofs.Steps.{kind-none, queued}
-use Rattle.protocol.proofs.Begin.{accepted-grouped}
-use Rattle.protocol.proofs.Places.{request-before, inner-before, outer-before, outer-up, same-before}
-use Rattle.protocol.proofs.Step.{row11, row12, grouped, steady-of, same-of, asks-of, ends-of, edited-by, sound-served, refused-by, step-sound-by, step-setup-by}
-use Rattle.protocol.proofs.Stays.{Same, step-stays}
+use Rattle.protocol.proofs.Sound.Statements.{Grouped, Steady, Sound, Asks}
+use Rattle.protocol.proofs.Edits.Equations.{same-group, with-group, opens-view, closes-view}
+use Rattle.protocol.proofs.Events.Branches.{request-edit-by}
+use Rattle.protocol.proofs.Events.Edited.{Does, step-does, by-edit}
+use Rattle.protocol.proofs.Edits.Locks.{pending-in}
+use Rattle.protocol.proofs.Jobs.Modes.{short-same}
+use Rattle.protocol.proofs.Events.Times.{same-lines}
+use Rattle.protocol.proofs.Demands.Waiting.{few-at-short}
+use Rattle.protocol.proofs.Events.Kept.{kind-none, queued}
+use Rattle.protocol.proofs.Sound.Begin.{accepted-grouped}
+use Rattle.protocol.proofs.Demands.Places.{request-before, inner-before, outer-before, outer-up, same-before}
+use Rattle.protocol.proofs.Events.Step.{row11, row12, grouped, steady-of, same-of, asks-of, ends-of, edited-by, sound-served, refused-by, step-sound-by, step-setup-by}
+use Rattle.protocol.proofs.Demands.StillWaiting.{Same, step-stays}
 
 -- ---- an accepted event
 module _ (s : State) (e : Event) (Q : Sound s) (ok : judge s e ≡ 0) where

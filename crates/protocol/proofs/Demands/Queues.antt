@@ -22,10 +22,10 @@ use Rattle.protocol.specs.Locks.{withGroup, openOfKind, opens, enqueues,
 use Rattle.protocol.specs.Edited.{requestEdit, completeEdit}
 use Rattle.protocol.specs.declared.Group.{Group}
 use Rattle.protocol.specs.declared.State.{State}
-use Rattle.protocol.proofs.Carry.{at-one}
-use Rattle.protocol.proofs.Views.{group-at, group-off}
-use Rattle.protocol.proofs.Blanks.{tidy-group}
-use Rattle.protocol.proofs.Branches.{request-edit-by, complete-edit-by}
+use Rattle.protocol.proofs.Edits.Untouched.{at-one}
+use Rattle.protocol.proofs.Edits.Equations.{group-at, group-off}
+use Rattle.protocol.proofs.Edits.EmptyPlaces.{tidy-group}
+use Rattle.protocol.proofs.Events.Branches.{request-edit-by, complete-edit-by}
 
 -- everyone at a keeps the place; moves up by one
 abbrev pub Lines : State → State → ℕ → Type 0

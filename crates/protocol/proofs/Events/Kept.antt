@@ -28,13 +28,13 @@ use Rattle.protocol.specs.Events.{Prefers, arrives, leaves, becomesPreem
 use Rattle.protocol.specs.Records.{withProcessors}
 use Rattle.protocol.specs.declared.Task.{Task}
 use Rattle.protocol.specs.declared.State.{State}
-use Rattle.protocol.proofs.Statements.{Grouped, Waits, LocksBut, Locks, Sized, Blank, Steady, Acts, Asks, Ends, Opens, Queues, Calls, Closes, Stands}
-use Rattle.protocol.proofs.Edits.{pending-in, whole, loosen, opens-locks, enqueues-locks, dequeues-locks, closes-locks, stands-locks}
-use Rattle.protocol.proofs.Told.{short-none, mode-soft}
-use Rattle.protocol.proofs.Jobs.{enqueues-short, enqueues-long, opens-short, opens-long, closes-inner, closes-long, closes-short, soften-alike, comes-jobs, goes-jobs, passes-long, passes-short}
-use Rattle.protocol.proofs.Branches.{request-by, complete-by, request-edit-by, complete-edit-by}
-use Rattle.protocol.proofs.Views.{sized-task, opens-view, opens-sized, opens-own, enqueues-view, enqueues-sized, enqueues-own, dequeues-view, dequeues-sized, dequeues-own, closes-view, frees-view, closes-sized, frees-sized, closes-own, frees-own, with-jobs, stands-view, stands-stand, stands-own}
-use Rattle.protocol.proofs.Blanks.{opens-blank, enqueues-blank, dequeues-blank, closes-blank, frees-blank, stands-blank, with-blank, with-sized, with-locks}
+use Rattle.protocol.proofs.Sound.Statements.{Grouped, Waits, LocksBut, Locks, Sized, Blank, Steady, Acts, Asks, Ends, Opens, Queues, Calls, Closes, Stands}
+use Rattle.protocol.proofs.Edits.Locks.{pending-in, whole, loosen, opens-locks, enqueues-locks, dequeues-locks, closes-locks, stands-locks}
+use Rattle.protocol.proofs.Jobs.Modes.{short-none, mode-soft}
+use Rattle.protocol.proofs.Jobs.Changes.{enqueues-short, enqueues-long, opens-short, opens-long, closes-inner, closes-long, closes-short, soften-alike, comes-jobs, goes-jobs, passes-long, passes-short}
+use Rattle.protocol.proofs.Events.Branches.{request-by, complete-by, request-edit-by, complete-edit-by}
+use Rattle.protocol.proofs.Edits.Equations.{sized-task, opens-view, opens-sized, opens-own, enqueues-view, enqueues-sized, enqueues-own, dequeues-view, dequeues-sized, dequeues-own, closes-view, frees-view, closes-sized, frees-sized, closes-own, frees-own, with-jobs, stands-view, stands-stand, stands-own}
+use Rattle.protocol.proofs.Edits.EmptyPlaces.{opens-blank, enqueues-blank, dequeues-blank, closes-blank, frees-blank, stands-blank, with-blank, with-sized, with-locks}
 
 -- ---- of r's kind
 module _ (c : Setup) (s : State) (t r : ℕ) where

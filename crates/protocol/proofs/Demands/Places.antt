@@ -21,12 +21,12 @@ use Rattle.protocol.specs.Demands.{Before}
 use Rattle.protocol.specs.declared.Standing.the-variants.{Active, Waiting}
 use Rattle.protocol.specs.declared.Group.{Group}
 use Rattle.protocol.specs.declared.State.{State}
-use Rattle.protocol.proofs.Statements.{Steady, Asks, SameGroup}
-use Rattle.protocol.proofs.Carry.{at-one}
-use Rattle.protocol.proofs.Views.{group-at, group-off}
-use Rattle.protocol.proofs.Steps.{kind-some}
-use Rattle.protocol.proofs.Branches.{request-edit-by, complete-edit-by}
-use Rattle.protocol.proofs.Lines.{dequeues-in, frees-lines, freed-in, request-lines, inner-lines, outer-lines, outer-ups}
+use Rattle.protocol.proofs.Sound.Statements.{Steady, Asks, SameGroup}
+use Rattle.protocol.proofs.Edits.Untouched.{at-one}
+use Rattle.protocol.proofs.Edits.Equations.{group-at, group-off}
+use Rattle.protocol.proofs.Events.Kept.{kind-some}
+use Rattle.protocol.proofs.Events.Branches.{request-edit-by, complete-edit-by}
+use Rattle.protocol.proofs.Demands.Queues.{dequeues-in, frees-lines, freed-in, request-lines, inner-lines, outer-lines, outer-ups}
 
 -- ---- who holds
 module _ (s : State) (g h : ℕ) (q : Queue) where

@@ -25,11 +25,11 @@ use Rattle.protocol.specs.declared.Lock.the-variants.{Short, Long}
 use Rattle.protocol.specs.declared.Standing.{Standing}
 use Rattle.protocol.specs.declared.Standing.the-variants.{Absent, Active, Waiting as WaitingFor}
 use Rattle.protocol.specs.declared.State.{State}
-use Rattle.protocol.proofs.Statements.{Grouped, Sound}
-use Rattle.protocol.proofs.Begin.{accepted-grouped}
-use Rattle.protocol.proofs.Ranks.{ranks-apart}
-use Rattle.protocol.proofs.Told.{rank-in-jobs, mode-active, mode-spin, mode-sleep, mode-absent}
-use Rattle.protocol.proofs.Demands.{chain, holder-stands}
+use Rattle.protocol.proofs.Sound.Statements.{Grouped, Sound}
+use Rattle.protocol.proofs.Sound.Begin.{accepted-grouped}
+use Rattle.protocol.proofs.Jobs.Ranks.{ranks-apart}
+use Rattle.protocol.proofs.Jobs.Modes.{rank-in-jobs, mode-active, mode-spin, mode-sleep, mode-absent}
+use Rattle.protocol.proofs.Demands.Waiting.{chain, holder-stands}
 
 no-more : (x : Standing) → standingNo x ≤ suspended
 no-more Absent = omega arith
