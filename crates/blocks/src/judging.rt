@@ -94,9 +94,17 @@ fn refusal_of(block: &[u8], index: u64) -> u8
     let count = input::byte_at(block, Block::COUNT_AT);
     let misnumbered = word_at(block, 0) as u64 != index % Block::NUMBERS;
     let r35 = numbers::row(Refusal::FILLER_WRONG, !is_filled(block, is_first), 0);
-    let r34 = numbers::row(Refusal::RECORD_COUNT_WRONG, !((1 <= count) & (count <= most_for(is_first))), r35);
+    let r34 = numbers::row(
+        Refusal::RECORD_COUNT_WRONG,
+        !((1 <= count) & (count <= most_for(is_first))),
+        r35,
+    );
     let r33 = numbers::row(Refusal::BLOCK_KIND_WRONG, kind != kind_for(is_first), r34);
-    let r32 = numbers::row(Refusal::NUMBER_WRONG, misnumbered | (Block::LAST_INDEX < index), r33);
+    let r32 = numbers::row(
+        Refusal::NUMBER_WRONG,
+        misnumbered | (Block::LAST_INDEX < index),
+        r33,
+    );
     let r31 = numbers::row(Refusal::CHECK_WRONG, !is_checked(block), r32);
     numbers::row(Refusal::SIZE_WRONG, block.len() != Block::SIZE, r31)
 }

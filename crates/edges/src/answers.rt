@@ -14,11 +14,11 @@ use crate::reporting::print_number;
 use input::Event;
 use libc::STDOUT_FILENO;
 use lines::Line;
+use pages::Page;
+use pages::Session;
 use processors::Jobs;
 use protocol::Reply;
 use protocol::State;
-use pages::Page;
-use pages::Session;
 
 // Time passes to tick 9, and an event of which each number is the largest.
 const TWO_EVENTS: [u8; 12] = [5, 0, 0, 0, 9, 0, 255, 255, 255, 255, 255, 255];

@@ -8,8 +8,8 @@ mod hostile;
 mod page_calls;
 mod parts;
 mod printed;
-mod scenarios;
 mod reporting;
+mod scenarios;
 mod writing;
 
 fn main() {

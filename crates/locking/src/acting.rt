@@ -92,7 +92,11 @@ fn complete(kinds: [u8; Setup::RESOURCES], task: Task, group: Group, r: u8) -> E
                 holder: Limit::NOBODY,
                 queue,
             },
-            turn: numbers::row(Edit::BECOME_PREEMPTABLE, kind == Setup::SHORT, Edit::GIVE_WAY),
+            turn: numbers::row(
+                Edit::BECOME_PREEMPTABLE,
+                kind == Setup::SHORT,
+                Edit::GIVE_WAY,
+            ),
             next: numbers::row(Limit::NOBODY, queue.len == 0, queue.first()),
         }
     }

@@ -94,8 +94,16 @@ fn field_rows(tasks: usize, resources: usize, e: Event, later: u8) -> u8
     let fields = input::fields_of(kind);
     let unused = (!fields.task & (t != 0)) | (!fields.resource & (r != 0));
     let r13 = numbers::row(Refusal::FIELD_UNUSED, unused, later);
-    let r12 = numbers::row(Refusal::RESOURCE_UNKNOWN, fields.resource & (resources <= r as usize), r13);
-    let r11 = numbers::row(Refusal::TASK_UNKNOWN, fields.task & (tasks <= t as usize), r12);
+    let r12 = numbers::row(
+        Refusal::RESOURCE_UNKNOWN,
+        fields.resource & (resources <= r as usize),
+        r13,
+    );
+    let r11 = numbers::row(
+        Refusal::TASK_UNKNOWN,
+        fields.task & (tasks <= t as usize),
+        r12,
+    );
     let is_kind = (Event::ARRIVAL <= kind) & (kind <= Event::PASSING);
     numbers::row(Refusal::EVENT_UNKNOWN, !is_kind, r11)
 }
@@ -126,19 +134,59 @@ fn judge_sound(
     let asks = e.kind == Event::REQUEST;
     let acts = (Event::FINISH <= e.kind) & (e.kind <= Event::COMPLETION);
     let not_newest = (depth == 0) | (newest(requests, depth) != e.resource);
-    let r25 = numbers::row(Refusal::NOT_NEWEST, (e.kind == Event::COMPLETION) & not_newest, 0);
-    let r24 = numbers::row(Refusal::TOO_MANY_OPEN, asks & (depth == Task::REQUESTS), r25);
+    let r25 = numbers::row(
+        Refusal::NOT_NEWEST,
+        (e.kind == Event::COMPLETION) & not_newest,
+        0,
+    );
+    let r24 = numbers::row(
+        Refusal::TOO_MANY_OPEN,
+        asks & (depth == Task::REQUESTS),
+        r25,
+    );
     let misplaced = is_misplaced(kinds, naming, requests, depth, e.resource);
     let r23 = numbers::row(Refusal::WRONGLY_NESTED, asks & misplaced, r24);
-    let r22 = numbers::row(Refusal::ALREADY_OPEN, asks & is_open(requests, depth, e.resource), r23);
-    let r21 = numbers::row(Refusal::FINISHES_OPEN, (e.kind == Event::FINISH) & (depth != 0), r22);
-    let r20 = numbers::row(Refusal::IS_SPINNING, acts & (hinders == Refusal::IS_SPINNING), r21);
-    let r19 = numbers::row(Refusal::ON_NO_PROCESSOR, acts & (hinders == Refusal::ON_NO_PROCESSOR), r20);
-    let r18 = numbers::row(Refusal::NOT_PENDING, acts & (hinders == Refusal::NOT_PENDING), r19);
-    let r17 = numbers::row(Refusal::ARRIVES_EARLY, comes & task.arrived & (now < earliest), r18);
-    let r16 = numbers::row(Refusal::ALREADY_PENDING, comes & (stand != Task::ABSENT), r17);
+    let r22 = numbers::row(
+        Refusal::ALREADY_OPEN,
+        asks & is_open(requests, depth, e.resource),
+        r23,
+    );
+    let r21 = numbers::row(
+        Refusal::FINISHES_OPEN,
+        (e.kind == Event::FINISH) & (depth != 0),
+        r22,
+    );
+    let r20 = numbers::row(
+        Refusal::IS_SPINNING,
+        acts & (hinders == Refusal::IS_SPINNING),
+        r21,
+    );
+    let r19 = numbers::row(
+        Refusal::ON_NO_PROCESSOR,
+        acts & (hinders == Refusal::ON_NO_PROCESSOR),
+        r20,
+    );
+    let r18 = numbers::row(
+        Refusal::NOT_PENDING,
+        acts & (hinders == Refusal::NOT_PENDING),
+        r19,
+    );
+    let r17 = numbers::row(
+        Refusal::ARRIVES_EARLY,
+        comes & task.arrived & (now < earliest),
+        r18,
+    );
+    let r16 = numbers::row(
+        Refusal::ALREADY_PENDING,
+        comes & (stand != Task::ABSENT),
+        r17,
+    );
     let r15 = numbers::row(Refusal::CLOCK_PAST_END, LAST_CLOCK < now, r16);
-    let r14 = numbers::row(Refusal::STEP_BACKWARD, BACKWARD <= step_to(clock, e.tick), r15);
+    let r14 = numbers::row(
+        Refusal::STEP_BACKWARD,
+        BACKWARD <= step_to(clock, e.tick),
+        r15,
+    );
     field_rows(setup.tasks, setup.resources, e, r14)
 }
 

@@ -53,8 +53,9 @@ module _ (x : Session) where
   setupPage r =
       let c = r .state .setup in
       if r .answer is 0 then (
-      record { index = 1; events = 0; over = false; state = r .state; refused = false },
-      firstText (c .processors) (c .tasks) (c .start))
+        record { index = 1; events = 0; over = false; state = r .state; refused = false },
+        firstText (c .processors) (c .tasks) (c .start),
+      )
       else (ended true, setupText (r .answer))
 
   -- every other block gives events: a line for each
@@ -82,7 +83,7 @@ module _ (x : Session) where
   lastPage = (
     ended (x .index is 0),
     (if x .index is 0 then blockText 0 sizeWrong
-    else tasksText (x .state) (min (x .state .setup .tasks) mostTasks)),
+        else tasksText (x .state) (min (x .state .setup .tasks) mostTasks)),
   )
 
   -- what is printed once `read` was read: a block, or nothing at the input's end

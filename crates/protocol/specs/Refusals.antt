@@ -64,7 +64,7 @@ eventRows s e =
     clockPastEnd when ltb lastClock (clockAfter s e) otherwise
     alreadyPending when e .kind is arrival && stand s t isn't absent otherwise
     arrivesEarly when e .kind is arrival && task s t .arrived
-        && ltb (clockAfter s e) (task s t .last + period c t) otherwise
+    && ltb (clockAfter s e) (task s t .last + period c t) otherwise
     notPending when acts && hinders is notPending otherwise
     onNoProcessor when acts && hinders is onNoProcessor otherwise
     isSpinning when acts && hinders is isSpinning otherwise

@@ -63,7 +63,11 @@ fn refusal_of(events: Events, index: u64) -> u8
 pub fn write_events(events: Events, index: u64, out: &mut [u8]) -> u8
     ensures { λ r. ⌜ (r, now (out .exit)) ≡ eventsWritten events index (now (out .entry)) ⌝ }
 {
-    let refusal = numbers::row(Refusal::ROOM_WRONG, out.len() != Block::SIZE, refusal_of(events, index));
+    let refusal = numbers::row(
+        Refusal::ROOM_WRONG,
+        out.len() != Block::SIZE,
+        refusal_of(events, index),
+    );
     if refusal != 0 {
         return refusal;
     }

@@ -98,7 +98,11 @@ fn setup_payload(setup: Setup) -> [u8; PAYLOAD]
 pub fn write_setup(setup: Setup, out: &mut [u8]) -> u8
     ensures { λ r. ⌜ (r, now (out .exit)) ≡ setupWritten setup (now (out .entry)) ⌝ }
 {
-    let refusal = numbers::row(Refusal::ROOM_WRONG, out.len() != Block::SIZE, setups::judge_setup(setup));
+    let refusal = numbers::row(
+        Refusal::ROOM_WRONG,
+        out.len() != Block::SIZE,
+        setups::judge_setup(setup),
+    );
     if refusal != 0 {
         return refusal;
     }
