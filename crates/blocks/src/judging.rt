@@ -6,6 +6,7 @@ use crate::checking::word_at;
 use input::Event;
 use input::Setup;
 use numbers::Refusal;
+use numbers::row;
 ghost use mathlib.Core.Path.{_≡_};
 ghost use Prim.Native.Nat.{_≤_};
 ghost use Rattle.numbers.specs.Rows.{firstOf};
@@ -93,20 +94,20 @@ fn refusal_of(block: &[u8], index: u64) -> u8
     let kind = input::byte_at(block, Block::KIND_AT);
     let count = input::byte_at(block, Block::COUNT_AT);
     let misnumbered = word_at(block, 0) as u64 != index % Block::NUMBERS;
-    let r35 = numbers::row(Refusal::FILLER_WRONG, !is_filled(block, is_first), 0);
-    let r34 = numbers::row(
+    let r35 = row(Refusal::FILLER_WRONG, !is_filled(block, is_first), 0);
+    let r34 = row(
         Refusal::RECORD_COUNT_WRONG,
         !((1 <= count) & (count <= most_for(is_first))),
         r35,
     );
-    let r33 = numbers::row(Refusal::BLOCK_KIND_WRONG, kind != kind_for(is_first), r34);
-    let r32 = numbers::row(
+    let r33 = row(Refusal::BLOCK_KIND_WRONG, kind != kind_for(is_first), r34);
+    let r32 = row(
         Refusal::NUMBER_WRONG,
         misnumbered | (Block::LAST_INDEX < index),
         r33,
     );
-    let r31 = numbers::row(Refusal::CHECK_WRONG, !is_checked(block), r32);
-    numbers::row(Refusal::SIZE_WRONG, block.len() != Block::SIZE, r31)
+    let r31 = row(Refusal::CHECK_WRONG, !is_checked(block), r32);
+    row(Refusal::SIZE_WRONG, block.len() != Block::SIZE, r31)
 }
 
 // The verdict on a block at an index.

@@ -7,6 +7,7 @@ use crate::edits::opened;
 use input::Event;
 use input::Setup;
 use numbers::Limit;
+use numbers::row;
 use protocol::Group;
 use protocol::Standing;
 use protocol::Task;
@@ -63,7 +64,7 @@ fn request(kinds: [u8; Setup::RESOURCES], task: Task, group: Group, t: u8, r: u8
                 holder: group.holder,
                 queue: line,
             },
-            turn: numbers::row(Edit::STAY, kind == Setup::SHORT, Edit::LEAVE),
+            turn: row(Edit::STAY, kind == Setup::SHORT, Edit::LEAVE),
             next: Limit::NOBODY,
         }
     }
@@ -92,12 +93,12 @@ fn complete(kinds: [u8; Setup::RESOURCES], task: Task, group: Group, r: u8) -> E
                 holder: Limit::NOBODY,
                 queue,
             },
-            turn: numbers::row(
+            turn: row(
                 Edit::BECOME_PREEMPTABLE,
                 kind == Setup::SHORT,
                 Edit::GIVE_WAY,
             ),
-            next: numbers::row(Limit::NOBODY, queue.len == 0, queue.first()),
+            next: row(Limit::NOBODY, queue.len == 0, queue.first()),
         }
     }
 }
@@ -161,7 +162,7 @@ pub fn hand_over(task: Task, group: Group, turn: u8, next: u8) -> Edit
             holder: next,
             queue: rest,
         },
-        turn: numbers::row(Edit::ARRIVE, turn == Edit::GIVE_WAY, Edit::STAY),
+        turn: row(Edit::ARRIVE, turn == Edit::GIVE_WAY, Edit::STAY),
         next,
     }
 }

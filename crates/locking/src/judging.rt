@@ -4,6 +4,7 @@ use crate::clock::step_to;
 use input::Event;
 use input::Setup;
 use numbers::Refusal;
+use numbers::row;
 use processors::Processors;
 use protocol::Situation;
 use protocol::Task;
@@ -93,19 +94,13 @@ fn field_rows(tasks: usize, resources: usize, e: Event, later: u8) -> u8
     let r = e.resource;
     let fields = input::fields_of(kind);
     let unused = (!fields.task & (t != 0)) | (!fields.resource & (r != 0));
-    let r13 = numbers::row(Refusal::FIELD_UNUSED, unused, later);
-    let r12 = numbers::row(
-        Refusal::RESOURCE_UNKNOWN,
-        fields.resource & (resources <= r as usize),
-        r13,
-    );
-    let r11 = numbers::row(
-        Refusal::TASK_UNKNOWN,
-        fields.task & (tasks <= t as usize),
-        r12,
-    );
+    let r13 = row(Refusal::FIELD_UNUSED, unused, later);
+    let no_resource = fields.resource & (resources <= r as usize);
+    let r12 = row(Refusal::RESOURCE_UNKNOWN, no_resource, r13);
+    let no_task = fields.task & (tasks <= t as usize);
+    let r11 = row(Refusal::TASK_UNKNOWN, no_task, r12);
     let is_kind = (Event::ARRIVAL <= kind) & (kind <= Event::PASSING);
-    numbers::row(Refusal::EVENT_UNKNOWN, !is_kind, r11)
+    row(Refusal::EVENT_UNKNOWN, !is_kind, r11)
 }
 
 // The first of 10 to 25 that applies, or 0, of a sound state by what an event looks at in it. The rows come from the
@@ -127,66 +122,36 @@ fn judge_sound(
     let requests = task.requests;
     let depth = task.depth;
     let stand = states::stand_of(standing);
-    let hinders = situation_refusal(states::situation_of(stand, p, e.task));
+    let refusal = situation_refusal(states::situation_of(stand, p, e.task));
     let now = clock_after(clock, e.tick);
     let earliest = (task.last as u64) + (states::period_at(periods, e.task) as u64);
     let comes = e.kind == Event::ARRIVAL;
+    let ends = e.kind == Event::FINISH;
     let asks = e.kind == Event::REQUEST;
+    let completes = e.kind == Event::COMPLETION;
     let acts = (Event::FINISH <= e.kind) & (e.kind <= Event::COMPLETION);
     let not_newest = (depth == 0) | (newest(requests, depth) != e.resource);
-    let r25 = numbers::row(
-        Refusal::NOT_NEWEST,
-        (e.kind == Event::COMPLETION) & not_newest,
-        0,
-    );
-    let r24 = numbers::row(
-        Refusal::TOO_MANY_OPEN,
-        asks & (depth == Task::REQUESTS),
-        r25,
-    );
+    let r25 = row(Refusal::NOT_NEWEST, completes & not_newest, 0);
+    let is_full = depth == Task::REQUESTS;
+    let r24 = row(Refusal::TOO_MANY_OPEN, asks & is_full, r25);
     let misplaced = is_misplaced(kinds, naming, requests, depth, e.resource);
-    let r23 = numbers::row(Refusal::WRONGLY_NESTED, asks & misplaced, r24);
-    let r22 = numbers::row(
-        Refusal::ALREADY_OPEN,
-        asks & is_open(requests, depth, e.resource),
-        r23,
-    );
-    let r21 = numbers::row(
-        Refusal::FINISHES_OPEN,
-        (e.kind == Event::FINISH) & (depth != 0),
-        r22,
-    );
-    let r20 = numbers::row(
-        Refusal::IS_SPINNING,
-        acts & (hinders == Refusal::IS_SPINNING),
-        r21,
-    );
-    let r19 = numbers::row(
-        Refusal::ON_NO_PROCESSOR,
-        acts & (hinders == Refusal::ON_NO_PROCESSOR),
-        r20,
-    );
-    let r18 = numbers::row(
-        Refusal::NOT_PENDING,
-        acts & (hinders == Refusal::NOT_PENDING),
-        r19,
-    );
-    let r17 = numbers::row(
-        Refusal::ARRIVES_EARLY,
-        comes & task.arrived & (now < earliest),
-        r18,
-    );
-    let r16 = numbers::row(
-        Refusal::ALREADY_PENDING,
-        comes & (stand != Task::ABSENT),
-        r17,
-    );
-    let r15 = numbers::row(Refusal::CLOCK_PAST_END, LAST_CLOCK < now, r16);
-    let r14 = numbers::row(
-        Refusal::STEP_BACKWARD,
-        BACKWARD <= step_to(clock, e.tick),
-        r15,
-    );
+    let r23 = row(Refusal::WRONGLY_NESTED, asks & misplaced, r24);
+    let is_open = is_open(requests, depth, e.resource);
+    let r22 = row(Refusal::ALREADY_OPEN, asks & is_open, r23);
+    let r21 = row(Refusal::FINISHES_OPEN, ends & (depth != 0), r22);
+    let spins = refusal == Refusal::IS_SPINNING;
+    let r20 = row(Refusal::IS_SPINNING, acts & spins, r21);
+    let is_off = refusal == Refusal::ON_NO_PROCESSOR;
+    let r19 = row(Refusal::ON_NO_PROCESSOR, acts & is_off, r20);
+    let has_none = refusal == Refusal::NOT_PENDING;
+    let r18 = row(Refusal::NOT_PENDING, acts & has_none, r19);
+    let comes_again = comes & task.arrived;
+    let r17 = row(Refusal::ARRIVES_EARLY, comes_again & (now < earliest), r18);
+    let is_pending = stand != Task::ABSENT;
+    let r16 = row(Refusal::ALREADY_PENDING, comes & is_pending, r17);
+    let r15 = row(Refusal::CLOCK_PAST_END, LAST_CLOCK < now, r16);
+    let is_backward = BACKWARD <= step_to(clock, e.tick);
+    let r14 = row(Refusal::STEP_BACKWARD, is_backward, r15);
     field_rows(setup.tasks, setup.resources, e, r14)
 }
 

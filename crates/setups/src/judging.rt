@@ -1,6 +1,7 @@
 // The refusals of a set-up, 1 to 5.
 use input::Setup;
 use numbers::Refusal;
+use numbers::row;
 ghost use mathlib.Core.Path.{_≡_};
 ghost use lib.Dec.{ltb};
 ghost use Rattle.search.specs.Words.{_is_};
@@ -83,9 +84,9 @@ fn has_long_in_short(setup: Setup) -> bool
 pub fn judge_setup(setup: Setup) -> u8
     ensures { λ r. ⌜ r ≡ setupRefusal setup ⌝ }
 {
-    let r5 = numbers::row(Refusal::LONG_IN_SHORT, has_long_in_short(setup), 0);
-    let r4 = numbers::row(Refusal::PAIR_STRAY, has_stray_pair(setup), r5);
-    let r3 = numbers::row(Refusal::KIND_UNKNOWN, has_other_kind(setup), r4);
-    let r2 = numbers::row(Refusal::PERIOD_ZERO, has_zero_period(setup), r3);
-    numbers::row(Refusal::COUNT_OUTSIDE, !is_in_limits(setup), r2)
+    let r5 = row(Refusal::LONG_IN_SHORT, has_long_in_short(setup), 0);
+    let r4 = row(Refusal::PAIR_STRAY, has_stray_pair(setup), r5);
+    let r3 = row(Refusal::KIND_UNKNOWN, has_other_kind(setup), r4);
+    let r2 = row(Refusal::PERIOD_ZERO, has_zero_period(setup), r3);
+    row(Refusal::COUNT_OUTSIDE, !is_in_limits(setup), r2)
 }

@@ -6,6 +6,7 @@ use crate::sealing::put_block;
 use blocks::Block;
 use input::Event;
 use numbers::Refusal;
+use numbers::row;
 ghost use mathlib.Core.Path.{_≡_};
 ghost use Prim.Native.Nat.{_<_};
 ghost use Rattle.numbers.specs.Rows.{firstOf};
@@ -51,10 +52,10 @@ fn refusal_of(events: Events, index: u64) -> u8
 {
     let miscounted = !((1 <= events.count) & (events.count <= Events::MOST));
     let misplaced = (index == 0) | (Block::LAST_INDEX < index);
-    numbers::row(
+    row(
         Refusal::RECORD_COUNT_WRONG,
         miscounted,
-        numbers::row(Refusal::NUMBER_WRONG, misplaced, 0),
+        row(Refusal::NUMBER_WRONG, misplaced, 0),
     )
 }
 
@@ -63,7 +64,7 @@ fn refusal_of(events: Events, index: u64) -> u8
 pub fn write_events(events: Events, index: u64, out: &mut [u8]) -> u8
     ensures { λ r. ⌜ (r, now (out .exit)) ≡ eventsWritten events index (now (out .entry)) ⌝ }
 {
-    let refusal = numbers::row(
+    let refusal = row(
         Refusal::ROOM_WRONG,
         out.len() != Block::SIZE,
         refusal_of(events, index),

@@ -7,6 +7,7 @@ use input::Setup;
 use input::high;
 use input::low;
 use numbers::Refusal;
+use numbers::row;
 ghost use mathlib.Core.Path.{_≡_};
 ghost use Prim.Native.Nat.{_*_, _<_};
 ghost use Rattle.numbers.specs.Limits.{mostTasks, mostPairs};
@@ -98,7 +99,7 @@ fn setup_payload(setup: Setup) -> [u8; PAYLOAD]
 pub fn write_setup(setup: Setup, out: &mut [u8]) -> u8
     ensures { λ r. ⌜ (r, now (out .exit)) ≡ setupWritten setup (now (out .entry)) ⌝ }
 {
-    let refusal = numbers::row(
+    let refusal = row(
         Refusal::ROOM_WRONG,
         out.len() != Block::SIZE,
         setups::judge_setup(setup),

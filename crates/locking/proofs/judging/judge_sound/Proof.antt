@@ -27,10 +27,10 @@ use Rattle.locking.proofs.judging.judge_sound.Statement.{statement}
 use Rattle.locking.proofs.judging.judge_sound.Tie as tie
 
 -- the rule from what the code reads and computes, line by line
-judged : (s : State) (e : Event) {c : Setup} {clock : ℕ} {k : Task} {p : Processors} {naming : List ℕ} {x : Situation} {st hinders now per new step r25 r24 r23 r22 r21 r20 r19 r18 r17 r16 r15 r14 r10 : ℕ} {mis seen : Bool}
+judged : (s : State) (e : Event) {c : Setup} {clock : ℕ} {k : Task} {p : Processors} {naming : List ℕ} {x : Situation} {st refusal now per new step r25 r24 r23 r22 r21 r20 r19 r18 r17 r16 r15 r14 r10 : ℕ} {mis seen : Bool}
     → st ≡ standingNo (k .standing)
     → x ≡ situationOf st p (e .task)
-    → hinders ≡ situationRefusal x
+    → refusal ≡ situationRefusal x
     → now ≡ clock + ticksTo clock (e .tick)
     → per ≡ period c (e .task)
     → new ≡ getD (k .requests) (k .depth - 1) nothing
@@ -41,9 +41,9 @@ judged : (s : State) (e : Event) {c : Setup} {clock : ℕ} {k : Task} {p : Proce
     → seen ≡ anyBelow (k .depth) (λ i. getD (k .requests) i nothing is e .resource)
     → r22 ≡ (if e .kind is asking && seen then 22 else r23)
     → r21 ≡ (if e .kind is finish && k .depth isn't 0 then 21 else r22)
-    → r20 ≡ (if within finish (e .kind) completion && hinders is 20 then 20 else r21)
-    → r19 ≡ (if within finish (e .kind) completion && hinders is 19 then 19 else r20)
-    → r18 ≡ (if within finish (e .kind) completion && hinders is 18 then 18 else r19)
+    → r20 ≡ (if within finish (e .kind) completion && refusal is 20 then 20 else r21)
+    → r19 ≡ (if within finish (e .kind) completion && refusal is 19 then 19 else r20)
+    → r18 ≡ (if within finish (e .kind) completion && refusal is 18 then 18 else r19)
     → r17 ≡ (if e .kind is arrival && k .arrived && ltb now (k .last + per) then 17 else r18)
     → r16 ≡ (if e .kind is arrival && st isn't absent then 16 else r17)
     → r15 ≡ (if ltb lastClock now then 15 else r16)
@@ -95,13 +95,13 @@ row-requires-2 : tie.Need-row-requires-2
 row-requires-2 c κs = search needs
 
 is-misplaced-requires : tie.Need-is-misplaced-requires
-is-misplaced-requires c κs = c .before .before .before .before .before .before .before .before .before .before .before .before .before .before .before .before .before .before .pre
+is-misplaced-requires c κs = (c .before .before .before .before .before .before .before .before .before .before .before .before .before .before .before .before .before .before .before) .pre
 
 row-requires-3 : tie.Need-row-requires-3
 row-requires-3 c κs = search needs
 
 is-open-requires : tie.Need-is-open-requires
-is-open-requires c κs = c .before .before .before .before .before .before .before .before .before .before .before .before .before .before .before .before .before .before .before .before .pre
+is-open-requires c κs = (c .before .before .before .before .before .before .before .before .before .before .before .before .before .before .before .before .before .before .before .before .before) .pre
 
 row-requires-4 : tie.Need-row-requires-4
 row-requires-4 c κs = search needs
@@ -137,35 +137,30 @@ field-rows-requires : tie.Need-field-rows-requires
 field-rows-requires c κs = search needs
 
 returns : tie.Need-returns
-returns c =
-    let later = c .before .before .before .before .before .before .before .before .before .before .before .before in
-    let tests = later .before .before .before .before .before .before .before .before in
-    λ s has.
-    judged
-    s
-    (tests .before .before .before .before .before .before .before .before .before .before .before .before .before .before .args .e)
-    (tests .before .before .before .before .before .before .before .before .before .before .stand-of .ensures)
-    (tests .before .before .before .before .before .before .before .before .before .situation-of .ensures)
-    (tests .before .before .before .before .before .before .before .before .situation-refusal .ensures)
-    (tests .before .before .before .before .before .before .before .clock-after .ensures)
-    (tests .before .before .before .before .before .period-at .ensures)
-    (tests .newest .ensures)
-    (later .before .before .before .before .before .row .ensures)
-    (later .before .before .before .before .row2 .ensures)
-    (later .before .before .before .is-misplaced .ensures)
-    (later .before .before .row3 .ensures)
-    (later .before .is-open .ensures)
-    (later .row4 .ensures)
-    (c .before .before .before .before .before .before .before .before .before .before .row5 .ensures)
-    (c .before .before .before .before .before .before .before .before .before .row6 .ensures)
-    (c .before .before .before .before .before .before .before .before .row7 .ensures)
-    (c .before .before .before .before .before .before .before .row8 .ensures)
-    (c .before .before .before .before .before .row9 .ensures)
-    (c .before .before .before .before .row10 .ensures)
-    (c .before .before .before .row11 .ensures)
-    (c .before .before .step-to .ensures)
-    (c .before .row12 .ensures)
-    (c .field-rows .ensures)
+returns c = λ s has.
+    judged s ((c .before .before .before .before .before .before .before .before .before .before .before .before .before .before .before .before .before .before .before .before .before .before .before .before .before .before .before .before .before .before .before .before .before .before .args) .e)
+    ((c .before .before .before .before .before .before .before .before .before .before .before .before .before .before .before .before .before .before .before .before .before .before .before .before .before .before .before .before .before .before .stand-of) .ensures)
+    ((c .before .before .before .before .before .before .before .before .before .before .before .before .before .before .before .before .before .before .before .before .before .before .before .before .before .before .before .before .before .situation-of) .ensures)
+    ((c .before .before .before .before .before .before .before .before .before .before .before .before .before .before .before .before .before .before .before .before .before .before .before .before .before .before .before .before .situation-refusal) .ensures)
+    ((c .before .before .before .before .before .before .before .before .before .before .before .before .before .before .before .before .before .before .before .before .before .before .before .before .before .before .before .clock-after) .ensures)
+    ((c .before .before .before .before .before .before .before .before .before .before .before .before .before .before .before .before .before .before .before .before .before .before .before .before .before .period-at) .ensures)
+    ((c .before .before .before .before .before .before .before .before .before .before .before .before .before .before .before .before .before .before .newest) .ensures)
+    ((c .before .before .before .before .before .before .before .before .before .before .before .before .before .before .before .before .row) .ensures)
+    ((c .before .before .before .before .before .before .before .before .before .before .before .before .before .before .before .row2) .ensures)
+    ((c .before .before .before .before .before .before .before .before .before .before .before .before .before .before .is-misplaced) .ensures)
+    ((c .before .before .before .before .before .before .before .before .before .before .before .before .before .row3) .ensures)
+    ((c .before .before .before .before .before .before .before .before .before .before .before .before .is-open) .ensures)
+    ((c .before .before .before .before .before .before .before .before .before .before .before .row4) .ensures)
+    ((c .before .before .before .before .before .before .before .before .before .before .row5) .ensures)
+    ((c .before .before .before .before .before .before .before .before .before .row6) .ensures)
+    ((c .before .before .before .before .before .before .before .before .row7) .ensures)
+    ((c .before .before .before .before .before .before .before .row8) .ensures)
+    ((c .before .before .before .before .before .row9) .ensures)
+    ((c .before .before .before .before .row10) .ensures)
+    ((c .before .before .before .row11) .ensures)
+    ((c .before .before .step-to) .ensures)
+    ((c .before .row12) .ensures)
+    ((c .field-rows) .ensures)
     has
 
 pub judge-sound-spec : {M : Type 1} → statement M
