@@ -16,7 +16,7 @@ use Rattle.processors.specs.Modes.{off}
 use Rattle.processors.specs.Words.{jobsFrom, firstModes}
 use Rattle.processors.specs.declared.Jobs.{Jobs}
 use Rattle.processors.specs.declared.Processors.{Processors}
-use Rattle.processors.proofs.Told.{first-all}
+use Rattle.processors.proofs.FirstTasks.{first-all}
 use Rattle.numbers.specs.Limits.{mostTasks, mostResources, nobody, mostRequests, nothing}
 use Rattle.input.specs.Kinds.{short, arrival, finish, request as asking, completion, passing}
 use Rattle.input.specs.Words.{period, dueAt}

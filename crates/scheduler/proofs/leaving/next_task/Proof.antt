@@ -9,7 +9,7 @@ use Rattle.search.specs.Best.{better, best}
 use Rattle.search.proofs.Bests.{best-turn, best-past}
 use Rattle.numbers.specs.Limits.{mostTasks}
 use Rattle.processors.specs.Words.{jobsFrom, firstModes, rankOf, modeOf, isUnlinked, isHigher}
-use Rattle.processors.proofs.Told.{first-mode, past-mode}
+use Rattle.processors.proofs.FirstTasks.{first-mode, past-mode}
 use Rattle.scheduler.specs.Leaving.{nextTask}
 use Rattle.processors.specs.declared.Processors.{Processors}
 use Rattle.scheduler.proofs.leaving.next_task.Statement.{statement}
