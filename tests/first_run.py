@@ -186,7 +186,7 @@ def try_make(folder):
     bad = folder / 'bad.scenario'
     bad.write_text('processors 1\nperiod 3\n')
     expect([MAKE, bad], 1, f'make: {bad}: line 2: unknown item: period 3\n')
-    expect([MAKE], 1, 'make: standard input: at the end: processors must stand before the first event\n')
+    expect([MAKE], 1, 'make: standard input: at the end: processors must come before the first event\n')
     expect_unwritten([MAKE, SCENARIO], 'make: the output could not be written\n')
     expect_unread(MAKE, folder, 'make: standard input: the scenario could not be read\n')
     many = folder / 'many.scenario'

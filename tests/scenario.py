@@ -57,10 +57,10 @@ MOST_LINE = 65_535
 TOO_LONG = f'a line has at most {MOST_LINE} bytes'
 UNKNOWN = 'unknown item'
 TOO_MANY = 'a word too many'
-TOO_LATE = 'it must stand before the first event'
-TWICE = 'it stands twice'
+TOO_LATE = 'it must come before the first event'
+TWICE = 'it comes a second time'
 FULL = 'there is no room for more: 32 tasks, 32 resources, 64 pairs'
-NO_PROCESSORS = 'processors must stand before the first event'
+NO_PROCESSORS = 'processors must come before the first event'
 
 
 class Wrong(Exception):

@@ -1,4 +1,4 @@
--- Document 01, 'Blocks', of a whole file: what its blocks give.
+-- RULES.md, 'Blocks', of a whole file: what its blocks hold.
 use Prim.Native.Nat.{ℕ, suc, _+_, _-_, _*_, _/_}
 use mathlib.Core.List.{List, [], _∷_, _++_}
 use lib.ListN.{length, getD, take, drop}
@@ -14,9 +14,11 @@ use Rattle.blocks.specs.Verdicts.{verdict, usedPart, numberOf}
 unfoldable pub blocksOf : List ℕ → List (List ℕ)
 blocksOf bytes = table (λ i. take blockSize (drop (blockSize * i) bytes)) ((length bytes + blockSize - 1) / blockSize)
 
+-- the refusal of a block at an index, or 0
 abbrev pub refusalOf : List ℕ → ℕ → ℕ
 refusalOf block index = numberOf (verdict block index)
 
+-- the used part of a block at an index; empty where it is refused
 abbrev pub partOf : List ℕ → ℕ → List ℕ
 partOf block index = usedPart block (verdict block index)
 
@@ -27,15 +29,18 @@ eventsFrom index (block ∷ blocks) =
     if refusalOf block index is 0 then eventsIn (partOf block index) ++ eventsFrom (suc index) blocks else []
 
 module _ (blocks : List (List ℕ)) where
-  -- an empty file has no first block, and what it lacks is not 512 bytes
+  -- block 0; an empty file has none, and the empty block in its place is refused, as it has not 512 bytes
   abbrev pub firstBlock : List ℕ
   firstBlock = getD blocks 0 []
 
+  -- the blocks from 1 on
   abbrev pub laterBlocks : List (List ℕ)
   laterBlocks = drop 1 blocks
 
+  -- the set-up, that of block 0
   abbrev pub setupOf : Setup
   setupOf = setupIn (partOf firstBlock 0)
 
+  -- the events, those of the blocks from 1 on, up to the first refused one
   abbrev pub eventsOf : List Event
   eventsOf = eventsFrom 1 laterBlocks

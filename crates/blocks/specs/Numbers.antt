@@ -1,4 +1,4 @@
--- Document 01, 'Numbers handed back': each number of a block is given exactly when its row is the first that applies,
+-- RULES.md, 'Numbers handed back': each number of a block is given exactly when its row is the first that applies,
 -- and 0 when none does.
 use Prim.Native.Nat.{ℕ}
 use mathlib.Core.Path.{_≡_}

@@ -1,5 +1,5 @@
--- Document 01, 'Blocks' and 'Numbers handed back': the refusals 30 to 35 of a block, in the list's order, and its
--- used part.
+-- RULES.md, 'Blocks' and 'Numbers handed back': the refusals 30 to 35 of a block, in the list's order, and its used
+-- part.
 use Prim.Native.Nat.{ℕ, _+_, _-_, _*_, _%_}
 use mathlib.Core.Bool.{Bool, not, _&&_, _||_}
 use mathlib.Core.List.{List, []}
@@ -16,22 +16,24 @@ use Rattle.blocks.specs.Check.{isChecked}
 use Rattle.blocks.specs.declared.Verdict.{Verdict}
 use Rattle.blocks.specs.declared.Verdict.the-variants.{Used, Refused}
 
--- the first block is the set-up, all others are events: the kind that it must have, and the most that it may count
+-- the kind that a block must have: the first is the set-up, all others are events
 abbrev pub kindFor : Bool → ℕ
 kindFor isFirst = if isFirst then setupBlock else eventBlock
 
+-- the most records that a block may count
 abbrev pub mostFor : Bool → ℕ
 mostFor isFirst = if isFirst then 1 else mostEvents
 
 module _ (block : List ℕ) where
+  -- the byte at place i of the payload
   abbrev pub payload : ℕ → ℕ
   payload i = byte block (payloadAt + i)
 
-  -- the payload's bytes from one place to before another are 0
+  -- the payload's bytes from `from` up to but not at `to` are 0
   unfoldable pub isBlank : ℕ → ℕ → Bool
   isBlank from to = allBelow (to - from) (λ i. payload (from + i) is 0)
 
-  -- in a set-up block, table places past a count are filler, and all behind the tables
+  -- in a set-up block, table places past a count are filler, and so is all after the tables
   unfoldable pub isSetupFilled : Bool
   isSetupFilled =
       isBlank (periodsAt + 2 * payload 1) kindsAt
@@ -39,23 +41,28 @@ module _ (block : List ℕ) where
       && isBlank (pairsAt + 2 * payload 3) setupSize
       && isBlank setupSize payloadSize
 
+  -- the record count
   abbrev pub count : ℕ
   count = byte block countAt
 
-  -- in an event block, each record's fourth byte is reserve, and all behind the records is filler
+  -- in an event block, each record's fourth byte is reserve, and all after the records is filler
   unfoldable pub isEventFilled : Bool
   isEventFilled = allBelow count (λ i. payload (eventSize * i + 3) is 0) && isBlank (eventSize * count) payloadSize
 
+  -- reserve and filler are 0
   abbrev pub isFilled : Bool → Bool
   isFilled isFirst = if isFirst then isSetupFilled else isEventFilled
 
+  -- the length of the used part
   abbrev pub usedSize : Bool → ℕ
   usedSize isFirst = if isFirst then setupSize else eventSize * count
 
   module _ (index : ℕ) where
+    -- block 0 is the first
     abbrev pub isFirst : Bool
     isFirst = index is 0
 
+    -- the list of 30 to 35
     unfoldable pub blockRows : List Row
     blockRows =
         sizeWrong when length block isn't blockSize otherwise
@@ -70,16 +77,17 @@ module _ (block : List ℕ) where
     unfoldable pub verdict : Verdict
     verdict = if firstOf blockRows is 0 then Used (usedSize isFirst) else Refused (firstOf blockRows)
 
-  -- the used part that a verdict speaks of
+  -- the used part, as a verdict has it; empty where the block is refused
   abbrev pub usedPart : Verdict → List ℕ
   usedPart (Used n) = take n (drop payloadAt block)
   usedPart (Refused number) = []
 
--- a verdict's number of the list, and the length of its part
+-- a verdict's number of the list: 0 where the block is accepted
 abbrev pub numberOf : Verdict → ℕ
 numberOf (Used n) = 0
 numberOf (Refused number) = number
 
+-- the length of a verdict's used part: 0 where the block is refused
 abbrev pub lengthOf : Verdict → ℕ
 lengthOf (Used n) = n
 lengthOf (Refused number) = 0

@@ -7,10 +7,12 @@ ghost use Rattle.input.specs.Layout.{word};
 ghost use Rattle.blocks.specs.Sizes.{blockSize};
 ghost use Rattle.blocks.specs.Check.{modulus, adding, checkOf, isChecked};
 
+// How many words are before the check, of two bytes each; and what each sum is taken modulo.
 const WORDS: usize = 254;
 
 const MODULUS: u32 = 65535;
 
+// One word more: the first sum adds the word, the second adds the new first.
 fn add(c: Check, w: u16) -> Check
     requires { ⌜ (c .first < modulus) × (c .second < modulus) ⌝ }
     ensures { λ r. ⌜ r ≡ adding c w ⌝ }
@@ -22,6 +24,7 @@ fn add(c: Check, w: u16) -> Check
     }
 }
 
+// The word at place `i`: two bytes, little-endian.
 pub fn word_at(block: &[u8], i: usize) -> u16
     requires { ⌜ i < blockSize ⌝ }
     ensures { λ r. ⌜ r ≡ word (now (block .entry)) i ⌝ }
@@ -29,7 +32,7 @@ pub fn word_at(block: &[u8], i: usize) -> u16
     input::word_of(input::byte_at(block, i), input::byte_at(block, i + 1))
 }
 
-// The check that the words before it give.
+// The check that a block should have: the sums over the words before it.
 pub fn check_of(block: &[u8]) -> Check
     ensures { λ r. ⌜ r ≡ checkOf (now (block .entry)) ⌝ }
 {
@@ -44,6 +47,7 @@ pub fn check_of(block: &[u8]) -> Check
     c
 }
 
+// Whether a block has the check that it should have.
 pub fn is_checked(block: &[u8]) -> bool
     ensures { λ r. ⌜ r ≡ isChecked (now (block .entry)) ⌝ }
 {

@@ -13,7 +13,7 @@ ghost use Rattle.numbers.specs.Rows.{firstOf};
 ghost use Rattle.blocks.specs.Sizes.{payloadSize};
 ghost use Rattle.blocks.specs.Verdicts.{kindFor, mostFor, isBlank, isSetupFilled, isEventFilled, isFilled, usedSize, blockRows, verdict, usedPart, numberOf};
 
-// The payload's bytes from `from` to before `to` are 0.
+// The payload's bytes from `from` up to but not at `to` are 0.
 fn is_blank(block: &[u8], from: usize, to: usize) -> bool
     requires { ⌜ to ≤ payloadSize ⌝ }
     ensures { λ r. ⌜ r ≡ isBlank (now (block .entry)) from to ⌝ }
@@ -25,6 +25,7 @@ fn is_blank(block: &[u8], from: usize, to: usize) -> bool
     ok
 }
 
+// In a set-up block, table places past a count are 0, and so is all after the tables.
 fn is_setup_filled(block: &[u8]) -> bool
     ensures { λ r. ⌜ r ≡ isSetupFilled (now (block .entry)) ⌝ }
 {
@@ -37,6 +38,7 @@ fn is_setup_filled(block: &[u8]) -> bool
         & is_blank(block, Setup::SIZE, Block::CHECK_AT - Block::PAYLOAD_AT)
 }
 
+// In an event block, each record's reserve byte is 0, and so is all after the records.
 fn is_event_filled(block: &[u8]) -> bool
     ensures { λ r. ⌜ r ≡ isEventFilled (now (block .entry)) ⌝ }
 {
@@ -53,19 +55,21 @@ fn is_event_filled(block: &[u8]) -> bool
         )
 }
 
-// What the first block and all others must have, and how much of each is used.
+// The kind that a block must have: the first is the set-up, all others are events.
 fn kind_for(first: bool) -> u8
     ensures { λ r. ⌜ r ≡ kindFor first ⌝ }
 {
     if first { Block::SETUP } else { Block::EVENTS }
 }
 
+// The most records that a block may count.
 fn most_for(first: bool) -> u8
     ensures { λ r. ⌜ r ≡ mostFor first ⌝ }
 {
     if first { 1 } else { Block::MOST_EVENTS }
 }
 
+// Reserve and filler are 0.
 fn is_filled(block: &[u8], first: bool) -> bool
     ensures { λ r. ⌜ r ≡ isFilled (now (block .entry)) first ⌝ }
 {
@@ -76,6 +80,7 @@ fn is_filled(block: &[u8], first: bool) -> bool
     }
 }
 
+// The length of the used part.
 fn used_size(block: &[u8], first: bool) -> usize
     ensures { λ r. ⌜ r ≡ usedSize (now (block .entry)) first ⌝ }
 {
@@ -86,7 +91,7 @@ fn used_size(block: &[u8], first: bool) -> usize
     }
 }
 
-// The first refusal that applies, or 0; the rows come from the last to the first.
+// The first refusal that applies, or 0. The rows go from the last to the first: see `numbers::row`.
 fn refusal_of(block: &[u8], index: u64) -> u8
     ensures { λ r. ⌜ r ≡ firstOf (blockRows (now (block .entry)) index) ⌝ }
 {
@@ -132,7 +137,8 @@ pub fn number_of(v: Verdict) -> u8
     }
 }
 
-// The used part of a block's payload: that part of the block itself, or, refused, an empty part.
+// The used part of a block's payload, as a slice of the block itself; empty where the block is refused. The verdict
+// may be any, so the slice ends at the latest where the block does.
 pub fn used_part(block: &[u8], v: Verdict) -> &[u8]
     ensures { λ r. ⌜ now r ≡ usedPart (now (block .entry)) v ⌝ }
 {

@@ -1,4 +1,4 @@
-// The reader of the studio's block files: a block's check, the verdict on it, and its used part.
+// The reader of block files: a block's check, the verdict on it, and its used part.
 mod checking;
 mod judging;
 
@@ -7,11 +7,11 @@ pub use judging::judge_block;
 pub use judging::number_of;
 pub use judging::used_part;
 
-// A block, of which only the limits are held here: its bytes are lent.
+// The layout and the limits of a block. Its bytes are always lent, as a slice.
 pub struct Block {}
 
 impl Block {
-    // Where each part of a block stands, and its size.
+    // Where each part of a block is, and its size.
     pub const KIND_AT: usize = 2;
 
     pub const COUNT_AT: usize = 3;
@@ -21,7 +21,8 @@ impl Block {
     pub const CHECK_AT: usize = 508;
 
     pub const SIZE: usize = 512;
-    // The last index that a block may have, and how many numbers there are.
+    // The last index that a block may have, and how many numbers there are: a block's number is its index modulo
+    // this.
     pub const LAST_INDEX: u64 = 999999;
 
     pub const NUMBERS: u64 = 65536;

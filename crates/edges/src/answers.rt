@@ -1,4 +1,5 @@
-// What every function answers on a state: on each hostile one at once, with 9, and the state is handed back as before.
+// What every function answers on a state. On each hostile one it is 9, at once, and the state is handed back as it
+// was.
 use crate::comparing::is_same;
 use crate::hostile;
 use crate::hostile::hostile;
@@ -20,17 +21,19 @@ use processors::Jobs;
 use protocol::Reply;
 use protocol::State;
 
-// Time passes to tick 9, and an event of which each number is the largest.
+// Time passes to tick 9; then an event in which each number is the largest.
 const TWO_EVENTS: [u8; 12] = [5, 0, 0, 0, 9, 0, 255, 255, 255, 255, 255, 255];
 
+// Begins the row of a state, with a word for what is in it.
 fn begin_row(which: u64, word: &[u8]) {
     io::write_all(STDOUT_FILENO, b"hostile");
     print_number(which);
     io::write_all(STDOUT_FILENO, word);
 }
 
-// Whether the state is the busy one, so that the comparison is seen to see each number; the first event judged, and
-// stepped, and whether the state is as before; both played, how many they were, and whether the state is as before.
+// Prints whether the state is the busy one, which shows that the comparison sees each number; the first event judged,
+// and stepped, and whether the state is as before; both events played, how many they were, and whether the state is
+// as before.
 fn tell_events(which: u64, state: State, busy: State) {
     let e = Event {
         kind: Event::PASSING,
@@ -55,7 +58,7 @@ fn tell_events(which: u64, state: State, busy: State) {
     end_row();
 }
 
-// How many jobs the scheduler is told of.
+// How many runnable jobs the scheduler is given.
 fn told_jobs(state: State) -> u64 {
     let setup = state.setup;
     let kinds = setup.kinds;
@@ -72,7 +75,7 @@ fn told_jobs(state: State) -> u64 {
     count
 }
 
-// Whether the state is sound, the jobs told, and its three lines, each into a buffer of its own.
+// Prints whether the state is sound, its runnable jobs, and its three lines, each into a buffer of its own.
 fn tell_lines(which: u64, state: State) {
     begin_row(which, b" told");
     print_flag(soundness::is_sound(state));
@@ -89,7 +92,8 @@ fn tell_lines(which: u64, state: State) {
     end_row();
 }
 
-// The pages of a session with that state, behind its set-up and five events: of a block of one event, and at the end.
+// Prints the pages of a session with that state, after its set-up and five events: of a block of one event, and at
+// the end.
 fn tell_pages(which: u64, state: State) {
     let session = Session {
         index: 1,
@@ -105,12 +109,14 @@ fn tell_pages(which: u64, state: State) {
     print_page(session, b"", Page::LIMIT);
 }
 
+// All rows of a state.
 fn tell_state(which: u64, state: State, busy: State) {
     tell_events(which, state, busy);
     tell_lines(which, state);
     tell_pages(which, state);
 }
 
+// The busy state, and each hostile one.
 pub fn run_all() {
     let busy = printed::busy();
     for which in 0..hostile::STATES {

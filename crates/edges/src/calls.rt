@@ -1,4 +1,5 @@
-// Edges that no file can show: blocks at far indices, lines that are refused, and events on a state that is not sound.
+// Edges that no file can show: blocks at far indices, lines that are refused, and events on a state that is not
+// sound.
 use crate::page_calls::event_block;
 use crate::printed;
 use crate::reporting::LENT;
@@ -20,6 +21,7 @@ const ENOUGH: usize = Line::LIMIT;
 
 const SHORT: usize = Line::LIMIT - 1;
 
+// Prints the number that a call returned.
 fn tell(call: u64, number: u8) {
     io::write_all(STDOUT_FILENO, b"call");
     print_number(call);
@@ -27,7 +29,7 @@ fn tell(call: u64, number: u8) {
     end_row();
 }
 
-// A line's number and length, and how many bytes of the buffer were written.
+// Prints a line's number and length, and how many bytes of the buffer were written.
 fn tell_line(call: u64, line: Line, out: [u8; ENOUGH]) {
     io::write_all(STDOUT_FILENO, b"call");
     print_number(call);
@@ -68,13 +70,13 @@ fn plain_lines(call: u64, room: usize)
     tell_line(call + 3, line, out);
 }
 
-// The verdict on a block of one event, of the number given, at an index.
+// The verdict on a block of one event with this number, at an index.
 fn tell_verdict(call: u64, number: u16, index: u64) {
     let block = event_block(number);
     tell(call, blocks::number_of(blocks::judge_block(&block, index)));
 }
 
-// An event of a kind that there is not, on a state that is sound, or is not.
+// An event of no kind, on a state that is sound, or is not.
 fn tell_answers(call: u64, state: State)
     requires { ⌜ call < 1000 ⌝ }
 {
@@ -87,6 +89,7 @@ fn tell_answers(call: u64, state: State)
     tell(call + 3, written[17]);
 }
 
+// All calls, numbered from 1.
 pub fn run_all() {
     let sound = printed::state_on(2);
     let empty = printed::state_on(0);

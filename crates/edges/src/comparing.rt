@@ -1,10 +1,12 @@
-// Whether two states have the same numbers, all of them, and two lists the same bytes: there is no `==` of either.
+// Whether two states have the same numbers, all of them, and whether two lists have the same bytes: there is no `==`
+// of either.
 use input::Setup;
 use processors::Processors;
 use protocol::Group;
 use protocol::State;
 use protocol::Task;
 
+// The lists have the same bytes.
 pub fn same_bytes(a: &[u8], b: &[u8]) -> bool {
     let mut same = a.len() == b.len();
     for i in 0..a.len() {
@@ -88,6 +90,7 @@ fn same_groups(a: State, b: State) -> bool {
     same
 }
 
+// The states have the same numbers.
 pub fn is_same(a: State, b: State) -> bool {
     let setup = a.setup;
     let other_setup = b.setup;

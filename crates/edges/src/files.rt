@@ -1,4 +1,4 @@
-// Files of blocks: each stands in the input behind its length, four bytes, low first.
+// Files of blocks: in the input each comes after its length, four bytes, little-endian.
 use crate::reporting::end_row;
 use crate::reporting::print_number;
 use crate::writing::is_written_again;
@@ -8,16 +8,16 @@ use libc::STDOUT_FILENO;
 use pages::Page;
 use pages::Session;
 
-// More than the input has.
+// More files than the input has.
 const MOST_FILES: u64 = 1000;
 
-// A walk through a file: its session, and how many of its blocks so far were written again to the byte.
+// A walk through a file: its session, and how many of its blocks so far were written again byte for byte.
 struct Walk {
     session: Session,
     again: u64,
 }
 
-// Writes the page of a block of which `read` came, and gives the session after it.
+// Writes the page of what was read, and returns the session after it.
 fn write_page(session: Session, read: &[u8]) -> Session {
     let mut out = [0u8; Page::LIMIT];
     let page = pages::next_page(session, read, &mut out);
@@ -51,7 +51,7 @@ fn take_block_of(walk: Walk, index: u64, left: usize) -> Walk {
     }
 }
 
-// How many bytes are left behind a block.
+// How many bytes are left after a block.
 fn left_behind(left: usize) -> usize {
     if left < Block::SIZE {
         0
@@ -60,14 +60,15 @@ fn left_behind(left: usize) -> usize {
     }
 }
 
+// Prints how many blocks were written again.
 fn tell_again(again: u64) {
     io::write_all(STDOUT_FILENO, b"written again");
     print_number(again);
     end_row();
 }
 
-// Steps through a file of `len` bytes; what stands behind a refused block is read and not printed. Last it tells how
-// many of all its blocks were written again to the byte.
+// Steps through a file of `len` bytes; what follows a refused block is read but not printed. At the end it prints how
+// many of all its blocks were written again byte for byte.
 fn run_file(len: usize) {
     let mut walk = Walk {
         session: pages::begin(),
@@ -83,7 +84,7 @@ fn run_file(len: usize) {
     tell_again(walk.again);
 }
 
-// Steps through the next file; past the input's end there is none.
+// Steps through the next file; returns false at the input's end.
 fn run_next(number: u64) -> bool {
     let mut head = [0u8; 4];
     let got = io::read_full(STDIN_FILENO, &mut head);
@@ -99,6 +100,7 @@ fn run_next(number: u64) -> bool {
     true
 }
 
+// Every file in the input.
 pub fn run_all() {
     let mut number = 1;
     while number < MOST_FILES && run_next(number) {

@@ -8,18 +8,19 @@ use protocol::Standing;
 use protocol::State;
 use protocol::Task;
 
-// As a task or a request 255 says 'none'. That is not sound in a place that must name one; the largest that does name
-// one is 254, which is sound nowhere.
+// As a task or a request 255 means 'none', which is not sound in a place that must name one. The largest number that
+// does name one is 254, which is sound nowhere.
 const FAR: u8 = 254;
 
-// The hostile states are numbered from 1: 0 is the state as it is, and the last has the numbers of all others at once.
+// The hostile states are numbered from 1: 0 is the state as it is, and the last has the numbers of all others at
+// once.
 const ALL: u64 = 33;
 
 pub const STATES: u64 = ALL + 1;
 
-// 1 to 9: the counts, the start, the period of a pending job, whose deadline it then does not give, a kind, and the
-// sides of a pair. 10 is the clock's, and start goes with it: the clock alone at its largest leaves a state sound, but
-// so the last arrivals are before the start.
+// 1 to 9: the counts, the start, the period of a pending job, which its deadline then does not fit, a kind, and the
+// sides of a pair. 10 is the clock, with the start: the clock alone at its largest leaves a state sound, but with
+// this start the last arrivals are before the start.
 fn in_setup(setup: Setup, which: u64) -> Setup {
     let mut next = setup;
     match which {
@@ -69,7 +70,7 @@ fn in_holding_task(task: Task, which: u64) -> Task {
     next
 }
 
-// 19 to 23: group 0, which is held, with one that waits.
+// 19 to 23: group 0, which is held, with one task waiting.
 fn in_group(group: Group, which: u64) -> Group {
     let mut next = group;
     let mut queue = next.queue;
@@ -85,8 +86,8 @@ fn in_group(group: Group, which: u64) -> Group {
     next
 }
 
-// 24 to 30: the count; processor 0, which is linked and not idle; and the last one, past the count, where 255 has to
-// stand.
+// 24 to 30: the count; processor 0, which is linked and not idle; and the last one, past the count, which must hold
+// 255.
 fn in_processors(p: Processors, which: u64) -> Processors {
     let mut next = p;
     match which {

@@ -1,5 +1,5 @@
-// The edges of document 01: files of blocks from standard input, each stepped through as the stepping program does,
-// and then edges that no file can show, as calls.
+// The edge cases: files of blocks from standard input, each stepped through as the stepping program does, and then
+// edges that no file can show, as calls.
 mod answers;
 mod calls;
 mod comparing;

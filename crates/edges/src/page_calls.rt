@@ -33,8 +33,8 @@ pub fn event_block(number: u16) -> [u8; Block::SIZE] {
     block
 }
 
-// The index and the events of the session after a page, whether the output is over, and whether the state is as
-// before.
+// Prints the index and the events of the session after a page, whether the output is over, and whether the state is
+// as before.
 fn print_after(before: Session, after: Session) {
     let state = before.state;
     let next = after.state;
@@ -44,14 +44,14 @@ fn print_after(before: Session, after: Session) {
     print_flag(is_same(state, next));
 }
 
-// A text's length, how many bytes of its buffer were written, and its first line.
+// Prints a text's length, how many bytes of its buffer were written, and its first line.
 fn print_text(out: [u8; Page::LIMIT], len: usize) {
     print_number(len as u64);
     print_number(changed(&out, 0));
     print_first_line(&out, len);
 }
 
-// A page's number, the session after it, and its text. The buffer has `room` bytes.
+// Prints a page's number, the session after it, and its text. The buffer has `room` bytes.
 pub fn print_page(session: Session, read: &[u8], room: usize)
     requires { ⌜ room ≤ pageLimit ⌝ }
 {
@@ -65,7 +65,7 @@ pub fn print_page(session: Session, read: &[u8], room: usize)
     end_row();
 }
 
-// The pages of a block of one event, of number 65,535, and of the input's end, for a session on the busy state.
+// Prints the pages of a block of one event, numbered 65,535, and of the input's end, for a session on the busy state.
 fn tell_pages(index: u64, events: u64, over: bool, room: usize)
     requires { ⌜ room ≤ pageLimit ⌝ }
 {
@@ -84,6 +84,7 @@ fn tell_pages(index: u64, events: u64, over: bool, room: usize)
     print_page(session, b"", room);
 }
 
+// The largest numbers, an output that is over, and short buffers.
 pub fn run_all() {
     tell_pages(u64::MAX, u64::MAX, false, Page::LIMIT);
     tell_pages(65535, u64::MAX, false, Page::LIMIT);

@@ -20,8 +20,8 @@ fn print_changes(out: [u8; ROOM], from: usize) {
     print_number(changed(&out, from));
 }
 
-// Plays the first `len` bytes into a buffer of `room`: how many events were played, the clock after them, and what was
-// written, in all and from place `from` on.
+// Plays the first `len` bytes into a buffer of `room`, and prints how many events were played, the clock after them,
+// and how many bytes were written, in all and from place `from` on.
 fn tell_part(len: usize, room: usize, from: usize)
     requires { ⌜ (len ≤ 13) × (room ≤ 51) ⌝ }
 {
@@ -39,6 +39,7 @@ fn tell_part(len: usize, room: usize, from: usize)
     end_row();
 }
 
+// Whole parts, cut ones, and short buffers.
 pub fn run_all() {
     tell_part(13, ROOM, 2 * Reply::SNAPSHOT);
     tell_part(12, 2 * Reply::SNAPSHOT, 2 * Reply::SNAPSHOT);

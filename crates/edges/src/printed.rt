@@ -1,9 +1,9 @@
-// The printed case of document 01: its set-up, and its state after five events.
+// RULES.md, 'The worked cases': the set-up of the printed case, and its state after five events.
 use input::Event;
 use input::Setup;
 use protocol::State;
 
-// The set-up of the printed case, on so many processors.
+// The set-up of the printed case, with this many processors.
 fn setup(processors: usize) -> Setup {
     let mut periods = [0u16; Setup::TASKS];
     periods[0] = 100;
@@ -22,6 +22,7 @@ fn setup(processors: usize) -> Setup {
     }
 }
 
+// The state that it begins with.
 pub fn state_on(processors: usize) -> State {
     let reply = states::begin(setup(processors));
     reply.state
@@ -41,7 +42,7 @@ fn after(state: State, kind: u8, task: u8, tick: u16) -> State {
     reply.state
 }
 
-// The set-up with a long resource besides, and a pair of it and the short one, which joins nothing, so that it has a
+// The set-up with a long resource as well, and a pair of it and the short one, which joins nothing: so it has a
 // number of every sort.
 pub fn busy_setup() -> Setup {
     let mut setup = setup(2);

@@ -1,10 +1,11 @@
-// How results are told: numbers in a row, and what was written into a lent buffer.
+// How results are printed: numbers in a row, and what was written into a lent buffer.
 use libc::STDOUT_FILENO;
 use lines::Line;
 
 // What the buffers hold before they are lent: a byte that no line has.
 pub const LENT: u8 = 7;
 
+// A number, after a space.
 pub fn print_number(n: u64) {
     io::write_all(STDOUT_FILENO, b" ");
     io::print_decimal(STDOUT_FILENO, n);
@@ -20,6 +21,7 @@ pub fn print_flag(is: bool) {
     print_number(if is { 1 } else { 0 });
 }
 
+// Ends the row.
 pub fn end_row() {
     io::write_all(STDOUT_FILENO, b"\n");
 }

@@ -10,10 +10,12 @@ use scenario::Draft;
 use scenario::Item;
 use scenario::Told;
 
+// Prints a word.
 fn say(word: &[u8]) {
     io::write_all(STDOUT_FILENO, word);
 }
 
+// Prints what became of an item.
 fn print_told(told: Told) {
     match told {
         Told::Kept => say(b" kept"),
@@ -29,6 +31,7 @@ fn print_told(told: Told) {
     }
 }
 
+// Takes an item, and prints what became of it and whether a block was written.
 fn take_item(draft: Draft, item: Item) -> Draft {
     let mut block = [LENT; Block::SIZE];
     let taken = scenario::take_item(draft, item, &mut block);
@@ -40,6 +43,7 @@ fn take_item(draft: Draft, item: Item) -> Draft {
     taken.draft
 }
 
+// Takes a line.
 fn take(draft: Draft, line: &[u8]) -> Draft {
     take_item(draft, scenario::read_line(line))
 }
@@ -59,7 +63,7 @@ fn take_bad_words(begun: Draft) -> Draft {
     take(sign, b"event 1 2 3 @4 5")
 }
 
-// A set-up of two processors and a task; nothing in it stands twice, and no event stands before it.
+// A set-up of two processors and a task, with events before it and items that come twice, which are faulty.
 fn take_setup(begun: Draft) -> Draft {
     let early = take(begun, b"arrive 0 @65530");
     let empty = take(early, b"block");
@@ -83,7 +87,7 @@ fn take_events(begun: Draft) -> Draft {
     take(again, b"pass @7")
 }
 
-// A pair of resources that are not there, and a set-up that stays as it is refused.
+// A pair of resources that do not exist: the set-up is refused, and again, as the draft stays as it was.
 fn take_refused(begun: Draft) -> Draft {
     let sized = take(begun, b"processors 1");
     let listed = take(sized, b"task 5");
@@ -92,6 +96,7 @@ fn take_refused(begun: Draft) -> Draft {
     take(judged, b"block")
 }
 
+// One scenario with faulty lines, and one whose set-up is refused.
 pub fn run_all() {
     let worded = take_bad_words(scenario::begin());
     let set = take_setup(worded);

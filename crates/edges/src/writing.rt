@@ -1,4 +1,4 @@
-// Blocks that are written: those of the files again, and by call what no file holds, and what is refused.
+// Blocks that are written: those of the files again, and by call those that no file has, and those that are refused.
 use crate::comparing::same_bytes;
 use crate::printed;
 use crate::reporting::LENT;
@@ -17,7 +17,7 @@ ghost use Prim.Native.Nat.{_≤_};
 // A byte more than a block has.
 const ROOM: usize = Block::SIZE + 1;
 
-// An event in which no two bytes are the same, and one of which each number is the largest.
+// An event in which no two bytes are the same.
 const MIXED: Event = Event {
     kind: 1,
     task: 2,
@@ -25,6 +25,7 @@ const MIXED: Event = Event {
     tick: 1284,
 };
 
+// An event in which each number is the largest.
 const LARGEST: Event = Event {
     kind: 255,
     task: 255,
@@ -32,21 +33,22 @@ const LARGEST: Event = Event {
     tick: 65535,
 };
 
-// Whether the writer accepts what was read of a block, and writes that block to the byte.
+// Whether the writer accepts the set-up that was read of a block, and writes that block again byte for byte.
 fn is_setup_again(setup: Setup, block: &[u8]) -> bool {
     let mut out = [LENT; Block::SIZE];
     let answer = writer::write_setup(setup, &mut out);
     (answer == 0) & same_bytes(&out, block)
 }
 
+// The same for events.
 fn are_events_again(events: Events, index: u64, block: &[u8]) -> bool {
     let mut out = [LENT; Block::SIZE];
     let answer = writer::write_events(events, index, &mut out);
     (answer == 0) & same_bytes(&out, block)
 }
 
-// Whether a block is read at its index and written again to the byte. Of one that the reader refuses nothing is read,
-// and the writer refuses that.
+// Whether a block is read at its index and written again byte for byte. Nothing is read of one that the reader
+// refuses, and the writer refuses that.
 pub fn is_written_again(block: &[u8], index: u64) -> bool {
     let part = blocks::used_part(block, blocks::judge_block(block, index));
     if index == 0 {
@@ -56,6 +58,7 @@ pub fn is_written_again(block: &[u8], index: u64) -> bool {
     }
 }
 
+// Four bytes from a place on.
 fn print_four(out: [u8; ROOM], from: usize)
     requires { ⌜ from ≤ 508 ⌝ }
 {
@@ -65,8 +68,8 @@ fn print_four(out: [u8; ROOM], from: usize)
     print_answer(out[from + 3]);
 }
 
-// The answer, and how many bytes were written; of a written block also its head, its check, and whether it is written
-// again once it is read.
+// Prints the answer and how many bytes were written; of a written block also its head, its check, and whether it is
+// written again once it is read.
 fn print_written(answer: u8, out: [u8; ROOM], index: u64) {
     print_answer(answer);
     print_number(changed(&out, 0));
@@ -78,6 +81,7 @@ fn print_written(answer: u8, out: [u8; ROOM], index: u64) {
     end_row();
 }
 
+// Writes a set-up into `room` bytes, and prints the result.
 fn tell_setup(setup: Setup, room: usize)
     requires { ⌜ room ≤ 513 ⌝ }
 {
@@ -87,7 +91,7 @@ fn tell_setup(setup: Setup, room: usize)
     print_written(answer, out, 0);
 }
 
-// The first `count` of events that are all the same but for the mixed one in front.
+// Writes the first `count` of events that are all `e` but for the mixed one in front, and prints the result.
 fn tell_events(e: Event, count: usize, index: u64, room: usize)
     requires { ⌜ room ≤ 513 ⌝ }
 {
@@ -130,7 +134,7 @@ fn past_counts() -> Setup {
     setup
 }
 
-// What comes back of the first of these numbers.
+// Prints what comes back of the first of these numbers.
 fn tell_past_counts() {
     let mut out = [LENT; Block::SIZE];
     io::write_all(STDOUT_FILENO, b"past counts");
@@ -158,6 +162,7 @@ fn full() -> Setup {
     }
 }
 
+// Set-ups that are written, and ones that are refused.
 fn tell_setups() {
     tell_setup(faulty(0), Block::SIZE);
     tell_setup(past_counts(), Block::SIZE);
@@ -174,6 +179,7 @@ fn tell_setups() {
     tell_setup(faulty(0), Block::SIZE + 1);
 }
 
+// Events that are written, and ones that are refused.
 fn tell_event_blocks() {
     tell_events(Event::NONE, 2, 1, Block::SIZE);
     tell_events(LARGEST, 1, 1, Block::SIZE);
@@ -197,6 +203,7 @@ fn tell_event_blocks() {
     tell_events(LARGEST, 1, 0, 0);
 }
 
+// All set-ups and events.
 pub fn run_all() {
     tell_setups();
     tell_past_counts();

@@ -4,6 +4,7 @@ use crate::Fields;
 ghost use mathlib.Core.Path.{_≡_};
 ghost use Rattle.input.specs.Kinds.{fieldsOf};
 
+// The fields that a kind may use: neither, the task alone, or both.
 const NEITHER: Fields = Fields {
     task: false,
     resource: false,
@@ -19,11 +20,13 @@ const BOTH: Fields = Fields {
     resource: true,
 };
 
-// By kind from 0 on, which is none, to the last.
+// How many rows the table has: one for each kind from 0 on, which is no kind.
 const KINDS: usize = Event::PASSING as usize + 1;
 
+// The fields of each kind.
 const FIELDS: [Fields; KINDS] = [NEITHER, TASK_ALONE, TASK_ALONE, BOTH, BOTH, NEITHER];
 
+// The fields that a kind uses; neither for a number that is no kind.
 pub fn fields_of(kind: u8) -> Fields
     ensures { λ r. ⌜ r ≡ fieldsOf kind ⌝ }
 {

@@ -31,6 +31,7 @@ pub struct Setup {
 }
 
 impl Setup {
+    // The limits.
     pub const PROCESSORS: usize = Limit::PROCESSORS;
 
     pub const TASKS: usize = Limit::TASKS;
@@ -42,8 +43,7 @@ impl Setup {
     pub const SHORT: u8 = 0;
 
     pub const LONG: u8 = 1;
-    // Where each part of a set-up begins in a block's payload, after the four counts, and how many bytes it takes in
-    // all.
+    // Where the parts of a set-up begin in a block's payload, after the four counts; and the bytes of a set-up.
     pub const START_AT: usize = 4;
 
     pub const PERIODS_AT: usize = 8;
@@ -54,7 +54,7 @@ impl Setup {
 
     pub const SIZE: usize = Setup::PAIRS_AT + 2 * Setup::PAIRS;
 
-    // No set-up: every count is 0, and every place.
+    // No set-up: every count and every place is 0.
     pub fn none() -> Setup
         ensures { λ r. ⌜ r ≡ noSetup ⌝ }
     {
@@ -72,6 +72,7 @@ impl Setup {
     }
 }
 
+// An event: its kind, the task and the resource that it names, and the console's tick.
 pub struct Event {
     pub kind: u8,
     pub task: u8,
@@ -80,6 +81,7 @@ pub struct Event {
 }
 
 impl Event {
+    // The kinds of event.
     pub const ARRIVAL: u8 = 1;
 
     pub const FINISH: u8 = 2;
@@ -89,18 +91,18 @@ impl Event {
     pub const COMPLETION: u8 = 4;
 
     pub const PASSING: u8 = 5;
-    // What stands where there is no event.
+    // What is read where there is no event.
     pub const NONE: Event = Event {
         kind: 0,
         task: 0,
         resource: 0,
         tick: 0,
     };
-    // How many bytes an event takes in a block: kind, task, resource, reserve, tick.
+    // The bytes of an event: kind, task, resource, reserve, and two bytes of tick.
     pub const SIZE: usize = 6;
 }
 
-// Whether a kind of event names a task, and a resource.
+// Whether a kind of event uses the task, and the resource.
 pub struct Fields {
     pub task: bool,
     pub resource: bool,

@@ -1,24 +1,25 @@
-// A set-up and an event from bytes. What is not there reads 0.
+// A set-up and an event from bytes. A byte past the end reads 0.
 use crate::Event;
 use crate::Setup;
 ghost use mathlib.Core.Path.{_≡_};
 ghost use Prim.Native.Nat.{_+_, _*_, _<_};
 ghost use Rattle.input.specs.Layout.{byte, startIn, periodsIn, kindsIn, sideIn, setupIn, eventIn, eventCount};
 
-// The byte at place `i`.
+// The byte at place `i`; 0 past the end.
 pub fn byte_at(part: &[u8], i: usize) -> u8
     ensures { λ r. ⌜ r ≡ byte (now (part .entry)) i ⌝ }
 {
     if i < part.len() { part[i] } else { 0 }
 }
 
-// Two bytes, low first.
+// Two bytes, little-endian.
 pub fn word_of(low: u8, high: u8) -> u16
     ensures { λ r. ⌜ r ≡ low + 256 * high ⌝ }
 {
     (low as u16) + 256 * (high as u16)
 }
 
+// The starting clock: four bytes, little-endian.
 fn start_in(part: &[u8]) -> u32
     ensures { λ r. ⌜ r ≡ startIn (now (part .entry)) ⌝ }
 {
@@ -33,6 +34,7 @@ fn start_in(part: &[u8]) -> u32
     (low as u32) + 65536 * (high as u32)
 }
 
+// The period of each task.
 fn periods_in(part: &[u8]) -> [u16; Setup::TASKS]
     ensures { λ r. ⌜ r ≡ periodsIn (now (part .entry)) ⌝ }
 {
@@ -44,6 +46,7 @@ fn periods_in(part: &[u8]) -> [u16; Setup::TASKS]
     periods
 }
 
+// The kind of each resource.
 fn kinds_in(part: &[u8]) -> [u8; Setup::RESOURCES]
     ensures { λ r. ⌜ r ≡ kindsIn (now (part .entry)) ⌝ }
 {
@@ -66,7 +69,7 @@ fn side_in(part: &[u8], side: usize) -> [u8; Setup::PAIRS]
     resources
 }
 
-// The set-up part of a block.
+// The set-up in the used part of a block.
 pub fn setup_from(part: &[u8]) -> Setup
     ensures { λ r. ⌜ r ≡ setupIn (now (part .entry)) ⌝ }
 {
@@ -90,7 +93,9 @@ pub fn event_count(part: &[u8]) -> usize
     part.len() / Event::SIZE
 }
 
-// The `i`-th event of an event part.
+// The `i`-th event of an event part. The test is `<` and not `<=`, as an event that the part holds only in part is
+// read too, what is missing reading 0. It only keeps the multiplication from overflowing: past it every byte reads 0,
+// as in `Event::NONE`.
 pub fn event_at(part: &[u8], i: usize) -> Event
     ensures { λ r. ⌜ r ≡ eventIn (now (part .entry)) i ⌝ }
 {

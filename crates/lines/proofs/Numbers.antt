@@ -8,7 +8,7 @@ use mathlib.Core.Logic.{_≢_, _↔_}
 use native.Mathlib.Omega.{arith}
 use native.Mathlib.Decide.{ℕ-discrete}
 use lib.ListN.{length}
-use borrow.Author.Tests.{eq-eqb, ne-eqb, lt-ltb, ltb-true}
+use borrow.Author.Tests.{ne-eqb, lt-ltb, ltb-true}
 use Rattle.numbers.specs.Rows.{Row, firstOf}
 use Rattle.numbers.specs.Numbered.{isNumbered, standsAt, FirstAt, NoneApplies}
 use Rattle.numbers.proofs.Refusals.{none-iff, number-iff}

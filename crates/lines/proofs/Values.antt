@@ -1,6 +1,6 @@
 -- The digits printed of a number read back as the number, without a leading zero. Assumes nothing.
-use Prim.Native.Nat.{ℕ, zero, suc, _+_, _-_, _*_, _/_, _%_, _≤_, _<_, _^_}
-use mathlib.Core.Path.{_≡_, refl, ap, _∙_}
+use Prim.Native.Nat.{ℕ, zero, suc, _+_, _-_, _*_, _/_, _%_, _<_, _^_}
+use mathlib.Core.Path.{_≡_, refl, _∙_}
 use mathlib.Core.List.{List, [], _∷_, _++_}
 use mathlib.Core.Logic.{_≢_}
 use native.Mathlib.Nat.{pow-suc}
@@ -10,8 +10,8 @@ use lib.ListN.{length, getD, length-append, List·getD-append}
 use lib.Dec.{ltb}
 use borrow.Author.Tests.{lt-ltb, le-ltb}
 use Rattle.search.specs.Words.{if_then_else_}
-use Rattle.search.specs.Texts.{digit, digits, decimal, mostDigits, valueBehind}
-use Rattle.lines.specs.Values.{ReadsBack, DigitsReadBack}
+use Rattle.search.specs.Texts.{digit, digits, mostDigits, valueBehind}
+use Rattle.lines.specs.Values.{DigitsReadBack}
 
 value-last : (before : ℕ) (l : List ℕ) (d : ℕ) → valueBehind before (l ++ (d ∷ [])) ≡ 10 * valueBehind before l + (d - 48)
 value-last before [] d = refl

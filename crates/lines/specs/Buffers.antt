@@ -1,5 +1,4 @@
--- Lines by call: each into a lent buffer, with its number and its length; and an event's line out of what `play`
--- wrote.
+-- RULES.md, 'Printing': lines by call, each into a lent buffer, with its number and its length.
 use Prim.Native.Nat.{ℕ, _+_, _*_, min}
 use mathlib.Core.Path.{_≡_}
 use mathlib.Core.List.{List, [], _++_}
@@ -15,53 +14,59 @@ use Rattle.search.specs.Texts.{codes, decimal, numbered, eachText}
 use Rattle.lines.specs.Texts.{firstText, placeText, taskLineText, blockText, setupText}
 use Rattle.lines.specs.declared.Line.{Line}
 
--- a text put into a buffer from a place on: the place behind it, and the buffer after
+-- a text written into a buffer from `at` on: the next write position, and the buffer after
 pub record Put (before : List ℕ) (at : ℕ) (text : List ℕ) (behind : ℕ) (after : List ℕ) : Type 0 where
   pub place : behind ≡ at + length text
   pub bytes : after ≡ written before at text
 
--- on the first processors, as they are written of an event
+-- linked/running task on each of the first processors, from the snapshot `line`
 abbrev pub placesText : List ℕ → ℕ → List ℕ
-placesText line = eachText (λ k. placeText (byte line (2 * k + 1)) (byte line (2 * k + 2)))
+placesText snapshot = eachText (λ k. placeText (byte snapshot (2 * k + 1)) (byte snapshot (2 * k + 2)))
 
--- an event: its number, the answer, and per processor linked/running task
+-- an event's line, from the snapshot `line`: its number, the answer, and for each processor linked/running task
 unfoldable pub eventText : ℕ → ℕ → List ℕ → List ℕ
-eventText number count line =
-    decimal number ++ numbered " " (byte line 0) ++ placesText line (min count mostProcessors) ++ codes "\n"
+eventText number count snapshot =
+    decimal number ++ numbered " " (byte snapshot 0) ++ placesText snapshot (min count mostProcessors) ++ codes "\n"
 
--- no place and no total is longer
+-- the most bytes that linked/running task takes on one processor
 abbrev pub placeWidth : ℕ
 placeWidth = 8
 
+-- the most bytes that one total takes
 abbrev pub totalWidth : ℕ
 totalWidth = 11
 
--- a line's buffer has so many bytes, or more
+-- the least size of a line's buffer, in bytes
 abbrev pub lineLimit : ℕ
 lineLimit = 96
 
--- a line with its refusals: its number and length, and the buffer
+-- a line that these rows may refuse: its number and length, and the buffer
 unfoldable pub lineInto : List Row → List ℕ → List ℕ → Line × List ℕ
 lineInto rows text out =
     if firstOf rows is 0 then (record { number = 0; len = length text }, written out 0 text)
     else (record { number = firstOf rows; len = 0 }, out)
 
+-- the refusal of a buffer that is too short for a line
 abbrev pub narrow : List ℕ → List Row
 narrow out = bufferShort when ltb (length out) lineLimit otherwise []
 
--- the line of each kind
 module _ (out : List ℕ) where
+  -- the first line
   abbrev pub countsLine : ℕ → ℕ → ℕ → Line × List ℕ
   countsLine m n start = lineInto (narrow out) (firstText m n start) out
 
+  -- an event's line, from its snapshot
   abbrev pub placesLine : ℕ → ℕ → List ℕ → Line × List ℕ
-  placesLine number count line = lineInto (narrow out) (eventText number count line) out
+  placesLine number count snapshot = lineInto (narrow out) (eventText number count snapshot) out
 
+  -- a task's line
   abbrev pub totalsLine : ℕ → List ℕ → Line × List ℕ
   totalsLine t totals = lineInto (narrow out) (taskLineText t totals) out
 
+  -- a refused block's line
   abbrev pub blockLine : ℕ → ℕ → Line × List ℕ
   blockLine index refusal = lineInto (narrow out) (blockText index refusal) out
 
+  -- a refused set-up's line
   abbrev pub setupLine : ℕ → Line × List ℕ
   setupLine refusal = lineInto (narrow out) (setupText refusal) out

@@ -1,4 +1,4 @@
--- Document 01, 'Printing': each number of a line is given exactly when its row is the first that applies, and 0 when
+-- RULES.md, 'Printing': each number of a line is given exactly when its row is the first that applies, and 0 when
 -- none does.
 use Prim.Native.Nat.{ℕ, _<_}
 use mathlib.Core.Path.{_≡_}
@@ -25,6 +25,6 @@ pub record LineNumbers (s : State) (out : List ℕ) : Type 0 where
   pub task-unsound : (t : ℕ) → (taskLine out s t .0 .number ≡ notSound) ↔ FirstAt (taskRows s t out) 0
   pub task-unknown : (t : ℕ) → (taskLine out s t .0 .number ≡ taskUnknown) ↔ FirstAt (taskRows s t out) 1
   pub task-narrow : (t : ℕ) → (taskLine out s t .0 .number ≡ bufferShort) ↔ FirstAt (taskRows s t out) 2
-  -- and of any line that asks for no state
+  -- and for any line that needs no state
   pub narrow-alone : (text : List ℕ)
       → (lineInto (narrow out) text out .0 .number ≡ bufferShort) ↔ (length out < lineLimit)

@@ -15,14 +15,14 @@ ghost use Rattle.protocol.specs.Records.{totalCount};
 ghost use Rattle.lines.specs.Buffers.{Put, placesText, placeWidth, totalWidth, countsLine, placesLine, totalsLine, blockLine, setupLine};
 ghost use Rattle.lines.specs.Texts.{placeText, totalsText};
 
-// What is returned in place of a line.
+// What is returned for a refused line.
 pub fn refused(number: u8) -> Line
     ensures { λ r. ⌜ r ≡ record { number = number; len = 0 } ⌝ }
 {
     Line { number, len: 0 }
 }
 
-// The first line: the counts of processors and tasks, and start.
+// The first line: the counts of processors and tasks, and the start.
 pub fn counts_line(m: usize, n: usize, start: u32, out: &mut [u8]) -> Line
     ensures { λ r. ⌜ (r, now (out .exit)) ≡ countsLine (now (out .entry)) m n start ⌝ }
 {
@@ -36,7 +36,7 @@ pub fn counts_line(m: usize, n: usize, start: u32, out: &mut [u8]) -> Line
     Line { number: 0, len }
 }
 
-// Linked/running task on a processor.
+// Writes linked/running task of one processor; returns the next write position.
 fn put_place(out: &mut [u8], at: usize, linked: u8, running: u8) -> usize
     requires { ⌜ at + length (placeText linked running) ≤ length (now out) ⌝ }
     ensures { λ r. ⌜ Put (now (out .entry)) at (placeText linked running) r (now (out .exit)) ⌝ }
@@ -47,7 +47,7 @@ fn put_place(out: &mut [u8], at: usize, linked: u8, running: u8) -> usize
     put_task(out, parted, running)
 }
 
-// On the first `count` processors.
+// Writes linked/running task of the first `count` processors; returns the next write position.
 fn put_places(out: &mut [u8], from: usize, snapshot: &[u8], count: usize) -> usize
     requires { ⌜ (count ≤ mostProcessors) × (from + placeWidth * count ≤ length (now out)) ⌝ }
     ensures { λ r. ⌜ Put (now (out .entry)) from (placesText (now (snapshot .entry)) count) r (now (out .exit))
@@ -65,7 +65,7 @@ fn put_places(out: &mut [u8], from: usize, snapshot: &[u8], count: usize) -> usi
     at
 }
 
-// No more processors than a state can have.
+// How many processors are shown: no more than a state can have.
 fn shown(count: usize) -> usize
     ensures { λ r. ⌜ r ≡ min count mostProcessors ⌝ }
 {
@@ -76,7 +76,7 @@ fn shown(count: usize) -> usize
     }
 }
 
-// An event's line: its number, and the snapshot after it.
+// An event's line, from its number and its snapshot.
 pub fn places_line(number: u64, count: usize, snapshot: &[u8], out: &mut [u8]) -> Line
     ensures { λ r. ⌜ (r, now (out .exit)) ≡ placesLine (now (out .entry)) number count (now (snapshot .entry)) ⌝ }
 {
@@ -90,6 +90,7 @@ pub fn places_line(number: u64, count: usize, snapshot: &[u8], out: &mut [u8]) -
     Line { number: 0, len }
 }
 
+// Writes the totals of a task; returns the next write position.
 fn put_totals(out: &mut [u8], from: usize, totals: [u32; Task::TOTALS]) -> usize
     requires { ⌜ from + totalWidth * totalCount ≤ length (now out) ⌝ }
     ensures { λ r. ⌜ Put (now (out .entry)) from (totalsText totals totalCount) r (now (out .exit))
@@ -102,7 +103,7 @@ fn put_totals(out: &mut [u8], from: usize, totals: [u32; Task::TOTALS]) -> usize
     at
 }
 
-// A task's totals.
+// A task's line.
 pub fn totals_line(t: u8, totals: [u32; Task::TOTALS], out: &mut [u8]) -> Line
     ensures { λ r. ⌜ (r, now (out .exit)) ≡ totalsLine (now (out .entry)) t totals ⌝ }
 {
@@ -115,7 +116,7 @@ pub fn totals_line(t: u8, totals: [u32; Task::TOTALS], out: &mut [u8]) -> Line
     Line { number: 0, len }
 }
 
-// A refused block.
+// A refused block's line.
 pub fn block_line(index: u64, refusal: u8, out: &mut [u8]) -> Line
     ensures { λ r. ⌜ (r, now (out .exit)) ≡ blockLine (now (out .entry)) index refusal ⌝ }
 {
@@ -128,7 +129,7 @@ pub fn block_line(index: u64, refusal: u8, out: &mut [u8]) -> Line
     Line { number: 0, len }
 }
 
-// A refused set-up.
+// A refused set-up's line.
 pub fn setup_line(refusal: u8, out: &mut [u8]) -> Line
     ensures { λ r. ⌜ (r, now (out .exit)) ≡ setupLine (now (out .entry)) refusal ⌝ }
 {

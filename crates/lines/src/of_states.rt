@@ -1,4 +1,4 @@
-// The lines of a state: the sound test, and then a line that needs no state.
+// The lines of a state: first the sound test, then a line that needs no state.
 use crate::Line;
 use crate::of_numbers::counts_line;
 use crate::of_numbers::places_line;
@@ -9,7 +9,7 @@ use protocol::State;
 ghost use mathlib.Core.Path.{_≡_};
 ghost use Rattle.lines.specs.StateLines.{firstLine, eventLine, taskLine};
 
-// The first line: the counts of processors and tasks, and start.
+// The first line: the counts of processors and tasks, and the start.
 pub fn first_line(state: State, out: &mut [u8]) -> Line
     ensures { λ r. ⌜ (r, now (out .exit)) ≡ firstLine (now (out .entry)) state ⌝ }
 {
@@ -20,7 +20,7 @@ pub fn first_line(state: State, out: &mut [u8]) -> Line
     counts_line(setup.processors, setup.tasks, setup.start, out)
 }
 
-// The line of an event that gave this answer and left this state.
+// The line of an event with this number and answer that left this state.
 pub fn event_line(state: State, number: u64, answer: u8, out: &mut [u8]) -> Line
     ensures { λ r. ⌜ (r, now (out .exit)) ≡ eventLine (now (out .entry)) state number answer ⌝ }
 {
@@ -33,7 +33,7 @@ pub fn event_line(state: State, number: u64, answer: u8, out: &mut [u8]) -> Line
     places_line(number, setup.processors, &snapshot, out)
 }
 
-// The totals of a task.
+// A task's line.
 pub fn task_line(state: State, t: u8, out: &mut [u8]) -> Line
     ensures { λ r. ⌜ (r, now (out .exit)) ≡ taskLine (now (out .entry)) state t ⌝ }
 {

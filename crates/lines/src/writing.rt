@@ -1,4 +1,4 @@
-// Texts and numbers written into a buffer from a place on; each function gives the place behind.
+// Texts and numbers written into a buffer from `at` on. Each function returns the next write position.
 use numbers::Limit;
 ghost use Prim.Native.Nat.{_+_, _≤_, _<_};
 ghost use mathlib.Core.List.{_++_};
@@ -7,9 +7,10 @@ ghost use Rattle.search.specs.Texts.{digit, digits, decimal};
 ghost use Rattle.lines.specs.Buffers.{Put};
 ghost use Rattle.lines.specs.Texts.{taskText};
 
-// Twenty digits hold every number of 64 bits.
+// Enough digits for every number of 64 bits.
 const MOST_DIGITS: u8 = 20;
 
+// Writes a text.
 pub fn put_text(out: &mut [u8], at: usize, text: &[u8]) -> usize
     requires { ⌜ at + length (now text) ≤ length (now out) ⌝ }
     ensures { λ r. ⌜ Put (now (out .entry)) at (now (text .entry)) r (now (out .exit)) ⌝ }
@@ -21,7 +22,7 @@ pub fn put_text(out: &mut [u8], at: usize, text: &[u8]) -> usize
     at + n
 }
 
-// The last digit of `n`.
+// Writes the last digit of `n`.
 fn put_digit(out: &mut [u8], at: usize, n: u64) -> usize
     requires { ⌜ at < length (now out) ⌝ }
     ensures { λ r. ⌜ Put (now (out .entry)) at (digit n) r (now (out .exit)) ⌝ }
@@ -30,6 +31,7 @@ fn put_digit(out: &mut [u8], at: usize, n: u64) -> usize
     at + 1
 }
 
+// Writes the decimal digits of `n`, the last `most` of them where there are more.
 fn put_digits(out: &mut [u8], at: usize, n: u64, most: u8) -> usize
     requires { ⌜ at + length (digits most n) ≤ length (now out) ⌝ }
     ensures { λ r. ⌜ Put (now (out .entry)) at (digits most n) r (now (out .exit)) ⌝ }
@@ -44,7 +46,8 @@ fn put_digits(out: &mut [u8], at: usize, n: u64, most: u8) -> usize
     put_digit(out, behind, n)
 }
 
-// Nearly every number of a line, as a task or an answer, is below 100 and is written at once.
+// Writes a number in decimal. Most numbers of a line, such as a task or an answer, are below 100, so those are
+// written at once, without recursion.
 pub fn put_number(out: &mut [u8], at: usize, n: u64) -> usize
     requires { ⌜ at + length (decimal n) ≤ length (now out) ⌝ }
     ensures { λ r. ⌜ Put (now (out .entry)) at (decimal n) r (now (out .exit)) ⌝ }
@@ -59,7 +62,7 @@ pub fn put_number(out: &mut [u8], at: usize, n: u64) -> usize
     put_digits(out, at, n, MOST_DIGITS)
 }
 
-// A number behind a word.
+// Writes a word, then a number.
 pub fn put_numbered(out: &mut [u8], at: usize, word: &[u8], n: u64) -> usize
     requires { ⌜ at + length (now word ++ decimal n) ≤ length (now out) ⌝ }
     ensures { λ r. ⌜ Put (now (out .entry)) at (now (word .entry) ++ decimal n) r (now (out .exit)) ⌝ }
@@ -68,7 +71,7 @@ pub fn put_numbered(out: &mut [u8], at: usize, word: &[u8], n: u64) -> usize
     put_number(out, named, n)
 }
 
-// A task's number, or `-` for none.
+// Writes a task's number, or `-` for none.
 pub fn put_task(out: &mut [u8], at: usize, t: u8) -> usize
     requires { ⌜ at + length (taskText t) ≤ length (now out) ⌝ }
     ensures { λ r. ⌜ Put (now (out .entry)) at (taskText t) r (now (out .exit)) ⌝ }

@@ -1,4 +1,5 @@
--- What the code of an accepted event needs of the state, which a charged sound state has.
+-- What the code requires of the state that an accepted event acts on. A sound state with the event's ticks charged
+-- has it.
 use Prim.Native.Nat.{ℕ, _<_, _≤_}
 use mathlib.Core.Path.{_≡_}
 use mathlib.Core.Bool.{true}
@@ -11,18 +12,19 @@ use Rattle.protocol.specs.Locks.{nextAt}
 use Rattle.protocol.specs.declared.State.{State}
 use Rattle.priorities.specs.Bounds.{isBounded}
 
--- the next of g is a task, with room for one request more
+-- the first job in g's queue is a task's, with room for one request more
 pub record CanPass (s : State) (g : ℕ) : Type 0 where
   pub inside : nextAt s g < mostTasks
   pub room : depth s (nextAt s g) < mostRequests
 
--- t has room for one request more, and g is a group's place
+-- t is a task with room for one request more, and g is a group's place
 pub record CanRequest (s : State) (t g : ℕ) : Type 0 where
   pub inside : t < mostTasks
   pub placed : g < mostResources
   pub room : depth s t < mostRequests
 
--- t has a request open, no more than can be, and g, a group's place, can be handed over if some task waits for it
+-- t is a task with a request open, and no more than eight; g is a group's place, and can be handed over if a task
+-- waits for it
 pub record CanComplete (s : State) (t g : ℕ) : Type 0 where
   pub inside : t < mostTasks
   pub placed : g < mostResources
@@ -30,7 +32,7 @@ pub record CanComplete (s : State) (t g : ℕ) : Type 0 where
   pub few : depth s t ≤ mostRequests
   pub next : 0 < len s g → CanPass s g
 
--- the task of e is one, the ranks fit their type, and a request or a completion can be done
+-- the ranks fit their type, the event's task is one, and its request or completion can be done
 pub record CanAct (s : State) (e : Event) : Type 0 where
   pub bounded : isBounded s ≡ true
   pub inside : e .task < mostTasks

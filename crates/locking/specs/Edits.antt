@@ -1,5 +1,5 @@
--- Document 01, 'Events', over the records of an event's task and group: the records after it, the scheduler's move
--- that follows, and who is then handed the group.
+-- RULES.md, 'What each event does', over the records of an event's task and group: the records after it, the
+-- scheduler's move that follows, and the task that is then handed the group.
 use Prim.Native.Nat.{ℕ}
 use mathlib.Core.Bool.{Bool, _||_}
 use mathlib.Core.List.{List}
@@ -25,20 +25,24 @@ use Rattle.protocol.specs.declared.Group.{Group}
 use Rattle.protocol.specs.declared.State.{State}
 use Rattle.locking.specs.declared.acting.Edit.{Edit}
 
--- ---- the scheduler's moves by number, `Edit::STAY` to `Edit::GIVE_WAY`: none, becoming preemptable, arriving or
--- resuming, finishing or suspending, giving way
+-- ---- the scheduler's moves by number, `Edit::STAY` to `Edit::GIVE_WAY`
+-- no move
 abbrev pub stay : ℕ
 stay = 0
 
+-- become preemptable
 abbrev pub becomePreemptable : ℕ
 becomePreemptable = 1
 
+-- arrive or resume
 abbrev pub arrive : ℕ
 arrive = 2
 
+-- finish or suspend
 abbrev pub leave : ℕ
 leave = 3
 
+-- give way
 abbrev pub giveWay : ℕ
 giveWay = 4
 
@@ -47,13 +51,13 @@ giveWay = 4
 abbrev pub openIn : List ℕ → Task → ℕ → Bool
 openIn kinds x r = anyBelow (x .depth) (λ i. getD kinds (getD (x .requests) i nothing) 0 is getD kinds r 0)
 
--- these are the records after, this move follows, and nobody is handed the group
+-- these records, then this move; nobody is handed the group
 abbrev pub keeping : Task → Group → ℕ → Edit
 keeping x y turn = record { task = x; group = y; turn = turn; next = nobody }
 
 module _ (kinds : List ℕ) (x : Task) (y : Group) where
-  -- Request of r by t. Same kind open, or the group free: granted at once. Otherwise a short request spins at the
-  -- queue's end, and a long one joins the queue, then suspends.
+  -- Request of r by t. Same kind open, or the group free: granted at once. Otherwise t is enqueued at the end: a
+  -- short request spins, a long one suspends.
   unfoldable pub requesting : ℕ → ℕ → Edit
   requesting t r =
       if openIn kinds x r || y .holder is nobody
@@ -65,8 +69,8 @@ module _ (kinds : List ℕ) (x : Task) (y : Group) where
         next = nobody;
       }
 
-  -- Completion of r. Inner: the request is closed, no more. Outermost: the group is free, for the queue's first job if
-  -- any; the completer of a short becomes preemptable, that of a long gives way.
+  -- Completion of r. Inner: the request is closed, no more. Outermost: the group is free, and is handed to the
+  -- queue's first job, if any; the completer of a short becomes preemptable, that of a long gives way.
   unfoldable pub completing : ℕ → Edit
   completing r =
       if openIn kinds (closing x) r then keeping (closing x) y stay
@@ -77,8 +81,7 @@ module _ (kinds : List ℕ) (x : Task) (y : Group) where
         next = if y .queue .len is 0 then nobody else waiter (y .queue) 0;
       }
 
--- an event at the clock, on the record of its task: who arrives gets the deadline `due`, who finishes has none, and
--- time alone changes nothing
+-- event e at the clock, on the records x of its task and y of its group: an arriving job gets the deadline `due`
 unfoldable pub editing : List ℕ → ℕ → ℕ → Task → Group → Event → Edit
 editing kinds due clock x y e =
     if e .kind is arrival then keeping (arriving clock due x) y arrive
@@ -87,8 +90,8 @@ editing kinds due clock x y e =
     else if e .kind is completion then completing kinds x y (e .resource)
     else keeping x y stay
 
--- `next`, with the record x, becomes holder of y, and what it asked for is open; where the completer gave way, the
--- group is long, and it resumes
+-- `next`, with the record x, is dequeued and becomes holder of y, and what it asked for is open. Where the
+-- completer's move `turn` was to give way, the group is long, and `next` resumes.
 unfoldable pub handing : Task → Group → ℕ → ℕ → Edit
 handing x y turn next = record {
   task = opening (askedOf (x .standing)) (withStanding Active x);
@@ -98,15 +101,15 @@ handing x y turn next = record {
 }
 
 -- ---- the event on the state
--- with x as the record of task t and y as that of group g
+-- the state with x as the record of task t, and y as that of group g
 abbrev pub put : ℕ → ℕ → Task → Group → State → State
 put t g x y s = withTasks (set (s .tasks) t x) (withGroups (set (s .groups) g y) s)
 
--- with those of an edit
+-- the state with the records of an edit
 abbrev pub stored : ℕ → ℕ → Edit → State → State
 stored t g d s = put t g (d .task) (d .group) s
 
--- t arrives or resumes, with no processor suggested; finishes or suspends; gives way; becomes preemptable; or stays
+-- the processors after task t's move `turn`; a job that arrives or resumes has no processor suggested
 abbrev pub movedWith : ℕ → Processors → Jobs → ℕ → Processors
 movedWith turn p j t =
     if turn is arrive then linking p j t nobody
@@ -115,15 +118,15 @@ movedWith turn p j t =
     else if turn is becomePreemptable then becomingPreemptable p t
     else p
 
--- the same, told the jobs of s
+-- the state after task t's move `turn`, with its own jobs
 unfoldable pub movedBy : ℕ → ℕ → State → State
 movedBy turn t s = withProcessors (movedWith turn (s .processors) (jobs (s .setup) s) t) s
 
--- the queue's first job u becomes holder of g, then resumes if it was suspended
+-- the queue's first job u becomes holder of g, and resumes if the completer's move `turn` was to give way
 unfoldable pub handed : ℕ → ℕ → ℕ → State → State
 handed g turn u s = let n = handing (task s u) (group s g) turn u in movedBy (n .turn) u (stored u g n s)
 
--- what an event does to the records of its task and of group g of a state
+-- what an event does to the records of its task and of group g in s
 abbrev pub editOf : Event → ℕ → State → Edit
 editOf e g s =
     editing (s .setup .kinds) (dueAt (s .setup) (e .task) (s .clock)) (s .clock) (task s (e .task)) (group s g) e

@@ -1,5 +1,5 @@
--- What is kept of a state while a part of events is played: its records, whose totals stand in one table of numbers,
--- and for each task three numbers that the moves and the charges look up.
+-- What is kept of a state while a part of events is played: its records; the totals of all tasks, in one table of
+-- numbers; and for each task three numbers that moves and charges look up.
 use Prim.Native.Nat.{ℕ}
 use mathlib.Core.Path.{_≡_}
 use mathlib.Core.List.{List}
@@ -16,7 +16,7 @@ use Rattle.priorities.specs.Bounds.{rankBy, modeIn}
 use Rattle.locking.specs.declared.moving.Kept.{Kept}
 use Rattle.locking.specs.Totals.{allTotals, counted}
 
--- the three numbers of each record, and of one that task t has anew
+-- the three numbers of each task, from the records
 abbrev pub keptIn : List ℕ → List Task → Kept
 keptIn kinds tasks = record {
   own = table (λ t. rankBy (getD tasks t noTask .deadline) t) mostTasks;
@@ -24,6 +24,7 @@ keptIn kinds tasks = record {
   stands = table (λ t. standingNo (getD tasks t noTask .standing)) mostTasks;
 }
 
+-- the three numbers of each task, with x as the new record of task t
 abbrev pub keptWith : List ℕ → ℕ → Task → Kept → Kept
 keptWith kinds t x k = record {
   own = set (k .own) t (rankBy (x .deadline) t);
@@ -31,7 +32,8 @@ keptWith kinds t x k = record {
   stands = set (k .stands) t (standingNo (x .standing));
 }
 
--- the clock, the records, the processors and the tables are those of s; the totals in the records are old
+-- the clock, the records, the processors and the tables are those of s; only the totals in the records are out of
+-- date
 pub record Keeps
     (s : State) (clock : ℕ) (ts : List Task) (gs : List Group) (p : Processors) (totals own modes stands : List ℕ)
     : Type 0 where

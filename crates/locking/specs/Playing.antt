@@ -13,7 +13,7 @@ use Rattle.states.specs.Writing.{snapshotSize, snapshotOf, written}
 unfoldable pub playable : List ℕ → List ℕ → ℕ
 playable part out = min (eventCount part) (length out / snapshotSize)
 
--- the answer to event n of a part, from the state before it
+-- the answer to event n of a part, and the state after it, from the state before it
 abbrev replyFrom : List ℕ → ℕ → State → Reply
 replyFrom part n s = step s (eventIn part n)
 
@@ -23,11 +23,11 @@ module _ (s : State) (part : List ℕ) where
   playedTo zero = s
   playedTo (suc n) = replyFrom part n (playedTo n) .state
 
-  -- the answer to the n-th of them
+  -- the answer to event n, and the state after it
   abbrev pub replyTo : ℕ → Reply
   replyTo n = replyFrom part n (playedTo n)
 
-  -- what is written of it
+  -- the snapshot of event n
   abbrev pub snapshotAt : ℕ → List ℕ
   snapshotAt n = snapshotOf (replyTo n .answer) (replyTo n .state .processors)
 
@@ -37,7 +37,7 @@ module _ (s : State) (part out : List ℕ) where
   writtenTo zero = out
   writtenTo (suc n) = written (writtenTo n) (snapshotSize * n) (snapshotAt s part n)
 
-  -- the state and the buffer after all, and how many they were
+  -- the state after all events that are played, how many they are, and the buffer
   unfoldable pub played : Played × List ℕ
   played =
       let n = playable part out in

@@ -17,14 +17,14 @@ use Rattle.protocol.specs.declared.Task.{Task}
 use Rattle.protocol.specs.declared.State.{State}
 use Rattle.protocol.specs.Records.{withTotals}
 
--- r may not be requested while q is open: a long while a short is, or the same kind in another group
+-- r may not be requested while q is open: r is long and q short, or they are of one kind in different groups
 abbrev pub isApart : List ℕ → List ℕ → ℕ → ℕ → Bool
 isApart kinds naming r q =
     (getD kinds r 0 is long && getD kinds q 0 is short)
     || (getD kinds q 0 is getD kinds r 0 && getD naming q nothing isn't getD naming r nothing)
 
--- what an event's answer is made of: the set-up, the clock, the record of the event's task, whose totals it does not
--- look at, and the processors of a state, the groups' names, and whether it is sound
+-- what an event's answer is computed from: the set-up and the clock of s, the record of the event's task, whose
+-- totals do not matter, the processors, the groups' names, and whether s is sound
 pub record HasParts
     (s : State) (c : Setup) (clock : ℕ) (k : Task) (p : Processors) (naming : List ℕ) (tested : Bool) (e : Event)
     : Type 0 where

@@ -1,5 +1,5 @@
--- While a part of events is played, the totals of all tasks stand in one table of numbers, task after task. It counts;
--- the totals in the records are old meanwhile.
+-- While a part of events is played, the totals of all tasks are in one table of numbers, task after task. The totals
+-- in the records are out of date meanwhile.
 use Prim.Native.Nat.{ℕ, zero, suc, _+_, _*_, _/_, _%_, _≤_, _<_}
 use mathlib.Core.Path.{_≡_}
 use mathlib.Core.Bool.{_&&_}
@@ -33,7 +33,7 @@ counted tasks totals = table (λ t. withTotals (rowOf totals t) (getD tasks t no
 unfoldable pub totalsIn : List Task → List ℕ
 totalsIn tasks = table (λ k. getD (getD tasks (k / totalCount) noTask .totals) (k % totalCount) 0) allTotals
 
--- a place for each task in a list of the processors' tasks, and as before for the others
+-- the places by task, with `place` for each task in a list of the processors' tasks
 abbrev pub markedBy : ℕ → List ℕ → List ℕ → List ℕ
 markedBy place tasks places =
     table (λ t. if ltb (placeOf tasks t) mostProcessors then place else getD places t 0) mostTasks
@@ -45,22 +45,22 @@ placeBy p t =
     else if ltb (linkOf p t) mostProcessors then totalOf LinkedOnly
     else totalOf Ready
 
--- the total of a pending task with a standing, as a number, and a place by the processors
+-- the total of a pending task, by its standing's number and its place by the processors
 abbrev pub totalBy : ℕ → ℕ → ℕ
 totalBy standing place =
     if standing is suspended then totalOf Suspended
     else if (standing is spinning && place is totalOf Running) then totalOf Spinning
     else place
 
--- the table with n added at place k, if the standing, as a number, is that of a pending task
+-- the table with n added at place k, if the standing's number is that of a pending task
 abbrev pub addedFor : ℕ → ℕ → ℕ → List ℕ → List ℕ
 addedFor standing k n totals = if standing isn't absent then set totals k (getD totals k 0 + n) else totals
 
--- the table with n ticks charged to task t by its standing, as a number, and its place by the processors
+-- the table with n ticks charged to task t, by its standing's number and its place by the processors
 abbrev pub chargedBy : ℕ → ℕ → ℕ → ℕ → List ℕ → List ℕ
 chargedBy standing place n t totals = addedFor standing (totalCount * t + totalBy standing place) n totals
 
--- where task t counts, by the numbers of the standings
+-- the place in the table that task t is charged at, by the numbers of the standings
 abbrev pub countsAt : Processors → List ℕ → ℕ → ℕ
 countsAt p stands t = totalCount * t + totalOf (situationOf (getD stands t absent) p t)
 

@@ -17,9 +17,9 @@ ghost use Rattle.input.specs.Kinds.{request as asking, completion};
 ghost use Rattle.numbers.specs.Limits.{mostRequests};
 ghost use Rattle.locking.specs.Edits.{requesting, completing, editing, handing};
 
-// The records of an event's task and group after it, the scheduler's move that follows, and who is then handed the
-// group. Both records are there whether or not they changed: so one sequence serves every kind of event, which reads
-// the two, stores them back and makes the move.
+// The records of an event's task and group after it, the scheduler's move `turn` that follows, and the task `next`
+// that is then handed the group, or nobody. Both records are always there, changed or not: so every kind of event is
+// done alike, by reading the two, storing them back and making the move.
 pub struct Edit {
     pub task: Task,
     pub group: Group,
@@ -40,7 +40,8 @@ impl Edit {
     pub const GIVE_WAY: u8 = 4;
 }
 
-// Task `t` requests `r`: it holds the group at once, or spins or suspends at the end of its queue.
+// Task `t` requests `r`: it holds the group at once, or it is enqueued at the end and spins or suspends. Here and
+// below `row` is a plain choice between two numbers.
 fn request(kinds: [u8; Setup::RESOURCES], task: Task, group: Group, t: u8, r: u8) -> Edit
     requires { ⌜ task .depth < mostRequests ⌝ }
     ensures { λ x. ⌜ x ≡ requesting kinds task group t r ⌝ }
@@ -70,7 +71,8 @@ fn request(kinds: [u8; Setup::RESOURCES], task: Task, group: Group, t: u8, r: u8
     }
 }
 
-// The newest request, that of `r`, is closed; an outermost one frees the group for the first of its queue.
+// The newest request, that for `r`, is closed; if it was outermost, the group is free, to be handed to the first in
+// its queue.
 fn complete(kinds: [u8; Setup::RESOURCES], task: Task, group: Group, r: u8) -> Edit
     requires { ⌜ (0 < task .depth) × (task .depth ≤ mostRequests) ⌝ }
     ensures { λ x. ⌜ x ≡ completing kinds task group r ⌝ }
@@ -144,8 +146,9 @@ pub fn edited(
     }
 }
 
-// The queue's first job, task `next` with the record `task`, becomes holder of `group`, and what it asked for is open.
-// `turn` is the completer's move: where that gave way, the group is long, and `next` resumes.
+// The queue's first job, task `next` with the record `task`, is dequeued and becomes holder of `group`, and what it
+// asked for is open. `turn` is the completer's move: where that was to give way, the group is long, and `next`
+// resumes.
 pub fn hand_over(task: Task, group: Group, turn: u8, next: u8) -> Edit
     requires { ⌜ task .depth < mostRequests ⌝ }
     ensures { λ x. ⌜ x ≡ handing task group turn next ⌝ }

@@ -13,7 +13,7 @@ ghost use Rattle.locking.specs.Totals.{allTotals, rowOf, counted, totals
 // How many totals all tasks have.
 pub const ALL_TOTALS: usize = Setup::TASKS * Task::TOTALS;
 
-// The numbers of the totals.
+// The numbers of the totals, in the order printed.
 const RUNNING: u8 = 0;
 
 const SPINNING: u8 = 1;
@@ -85,7 +85,8 @@ fn mark(places: &mut [u8], tasks: [u8; Processors::LIMIT], place: u8)
     }
 }
 
-// The total of each task by the processors alone: running, linked only or ready.
+// The total of each task by the processors alone: running, linked only or ready. Running tasks are marked last, as a
+// running task may be linked too.
 fn places_of(p: Processors) -> [u8; Setup::TASKS]
     ensures { λ r. ⌜ r ≡ table (placeBy p) mostTasks ⌝ }
 {
@@ -97,7 +98,7 @@ fn places_of(p: Processors) -> [u8; Setup::TASKS]
     places
 }
 
-// The total of a pending task, whose standing has the number `stand` and whose total by the processors is `place`.
+// The total of a pending task with the standing number `stand` and the total `place` by the processors.
 fn total_by(stand: u8, place: u8) -> u8
     ensures { λ r. ⌜ r ≡ totalBy stand place ⌝ }
 {

@@ -1,4 +1,4 @@
-// A task's record with one change: a request more or less, a job that comes or goes.
+// A task's record with one change: a request more or less, a job that arrives or is gone.
 use input::Setup;
 use numbers::Limit;
 use protocol::Lock;
@@ -9,7 +9,7 @@ ghost use Prim.Native.Nat.{_≤_, _<_};
 ghost use Rattle.numbers.specs.Limits.{mostRequests};
 ghost use Rattle.protocol.specs.Locks.{opening, closing, arriving, departing, lockOf};
 
-// One request more is open.
+// A request for `r` is open, as the newest.
 pub fn opened(task: Task, r: u8) -> Task
     requires { ⌜ task .depth < mostRequests ⌝ }
     ensures { λ x. ⌜ x ≡ opening r task ⌝ }
@@ -33,6 +33,7 @@ pub fn closed(task: Task) -> Task
     next
 }
 
+// A job arrives at the clock `now`, with the deadline `due`.
 pub fn arrived(task: Task, now: u32, due: u64) -> Task
     ensures { λ x. ⌜ x ≡ arriving now due task ⌝ }
 {
@@ -49,6 +50,7 @@ pub fn arrived(task: Task, now: u32, due: u64) -> Task
     }
 }
 
+// The job is gone, and its deadline is 0.
 pub fn departed(task: Task) -> Task
     ensures { λ x. ⌜ x ≡ departing task ⌝ }
 {
@@ -65,6 +67,7 @@ pub fn departed(task: Task) -> Task
     }
 }
 
+// What a job that asked for `r`, a resource of this kind, waits for.
 pub fn lock_of(kind: u8, r: u8) -> Lock
     ensures { λ l. ⌜ l ≡ lockOf kind r ⌝ }
 {

@@ -21,8 +21,8 @@ pub fn judge_event(state: State, e: Event) -> u8
     judge_parts(setup, state.clock, task, p, naming, tested.passes, e)
 }
 
-// The answer to an event, and the state after it: the same one, where the event is refused. It is played as a part of
-// one event.
+// The answer to an event, and the state after it; a refused event leaves the state as it was. It is played as a part
+// of one event.
 pub fn step(state: State, e: Event) -> Reply
     ensures { λ r. ⌜ r ≡ stepRule state e ⌝ }
 {

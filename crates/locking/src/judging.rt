@@ -22,11 +22,13 @@ ghost use Rattle.protocol.specs.Refusals.{fieldRows, judge};
 ghost use Rattle.protocol.specs.declared.State.{State};
 ghost use Rattle.locking.specs.Steps.{isApart, HasParts};
 
-// The furthest step that goes forward, plus one; and the clock's end.
+// The least step that goes backward.
 const BACKWARD: u16 = 32768;
 
+// The end of the exact clock.
 const LAST_CLOCK: u64 = 4294967295;
 
+// The refusal of a finish, request or completion in a situation, 18 to 20, or 0.
 pub fn situation_refusal(situation: Situation) -> u8
     ensures { λ r. ⌜ r ≡ situationRefusal situation ⌝ }
 {
@@ -52,7 +54,7 @@ fn is_open(requests: [u8; Task::REQUESTS], depth: usize, r: u8) -> bool
     some
 }
 
-// Long while a short is open, or same kind open in another group.
+// `r` may not be requested: it is long while a short is open, or the same kind is open in another group.
 fn is_misplaced(
     kinds: [u8; Setup::RESOURCES],
     naming: [u8; Setup::RESOURCES],
@@ -75,6 +77,7 @@ fn is_misplaced(
     some
 }
 
+// The newest open request. At depth 0, where there is none, it reads the first place, as the rule does.
 fn newest(requests: [u8; Task::REQUESTS], depth: usize) -> u8
     ensures { λ r. ⌜ r ≡ getD requests (depth - 1) nothing ⌝ }
 {
@@ -103,8 +106,8 @@ fn field_rows(tasks: usize, resources: usize, e: Event, later: u8) -> u8
     row(Refusal::EVENT_UNKNOWN, !is_kind, r11)
 }
 
-// The first of 10 to 25 that applies, or 0, of a sound state by what an event looks at in it. The rows come from the
-// last to the first, as each needs what the later ones give.
+// The first of 10 to 25 that applies, or 0, for a sound state, from what an event depends on. The rows go from the
+// last to the first: see `numbers::row`.
 fn judge_sound(
     setup: Setup,
     clock: u32,
@@ -155,9 +158,9 @@ fn judge_sound(
     field_rows(setup.tasks, setup.resources, e, r14)
 }
 
-// The first of 9 to 25 that applies, or 0, by what an event looks at in a state: the set-up, the clock, the record of
-// the event's task and the processors. `naming` has the name of each resource's group, and `sound` says whether the
-// state is sound; of one that is not, nothing else is looked at.
+// The first of 9 to 25 that applies, or 0, from what an event depends on: the set-up, the clock, the record of the
+// event's task and the processors. `naming` has the name of each resource's group, and `sound` says whether the state
+// is sound; if it is not, nothing else is read.
 pub fn judge_parts(
     setup: Setup,
     clock: u32,

@@ -1,4 +1,4 @@
-// Locking: sessions stepped by events. Every public function answers for any content, by the rules of `protocol`.
+// Locking: sessions stepped by events. Every public function is defined for any content, by the rules of `protocol`.
 mod acting;
 mod clock;
 mod counting;
@@ -13,7 +13,7 @@ pub use events::step;
 pub use playing::play;
 use protocol::State;
 
-// What a part's events gave: the state after those that were played, and how many they were.
+// The state after the events of a part that were played, and how many they were.
 pub struct Played {
     pub state: State,
     pub count: usize,

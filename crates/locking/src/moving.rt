@@ -15,14 +15,15 @@ ghost use Rattle.priorities.specs.Bounds.{rankWith};
 ghost use Rattle.locking.specs.Edits.{leave, giveWay, movedWith};
 ghost use Rattle.locking.specs.Keeping.{keptIn, keptWith};
 
-// What moves and charges look up of each task: its own rank, its mode and its standing's number. They are kept along
-// from event to event, so that none has to read every record again.
+// What moves and charges look up of each task: its own rank, its mode and its standing's number. It is kept up to
+// date from event to event, so that no event has to read every record.
 pub struct Kept {
     pub own: [u64; Setup::TASKS],
     pub modes: [u8; Setup::TASKS],
     pub stands: [u8; Setup::TASKS],
 }
 
+// What is kept, from the records.
 pub fn kept_of(kinds: [u8; Setup::RESOURCES], tasks: [Task; Setup::TASKS]) -> Kept
     ensures { λ r. ⌜ r ≡ keptIn kinds tasks ⌝ }
 {
@@ -33,7 +34,7 @@ pub fn kept_of(kinds: [u8; Setup::RESOURCES], tasks: [Task; Setup::TASKS]) -> Ke
     }
 }
 
-// Task `t` has another record.
+// What is kept, with `task` as the new record of task `t`.
 pub fn keep(kept: Kept, kinds: [u8; Setup::RESOURCES], task: Task, t: u8) -> Kept
     requires { ⌜ t < mostTasks ⌝ }
     ensures { λ r. ⌜ r ≡ keptWith kinds t task kept ⌝ }
@@ -47,7 +48,8 @@ pub fn keep(kept: Kept, kinds: [u8; Setup::RESOURCES], task: Task, t: u8) -> Kep
     next
 }
 
-// The move `turn` of task `t`. Effective ranks are told anew, from the own ranks and the groups as they now are.
+// The processors after the move `turn` of task `t`. The effective ranks are computed anew, from the own ranks and the
+// groups as they are now.
 pub fn moved(
     turn: u8,
     p: Processors,

@@ -35,7 +35,7 @@ fn put_snapshot(out: &mut [u8], at: usize, snapshot: [u8; Reply::SNAPSHOT]) -> u
     at + Reply::SNAPSHOT
 }
 
-// The place of the group of resource `r`; the first place where it has none.
+// The place of the group of resource `r`; place 0 where it has none, as some record has to be read and stored back.
 fn place_in(naming: [u8; Setup::RESOURCES], r: u8) -> usize
     ensures { λ g. ⌜ (g < mostResources) × (getD naming r nothing < mostResources → g ≡ getD naming r nothing) ⌝ }
 {
@@ -43,9 +43,9 @@ fn place_in(naming: [u8; Setup::RESOURCES], r: u8) -> usize
     if g < Setup::RESOURCES { g } else { 0 }
 }
 
-// The first `count` events of `part`, from a state that was tested. It is taken apart once and put together at the
-// end, so that no event copies all of it; meanwhile the totals stand in one table, and what moves look up is kept
-// along.
+// Plays the first `count` events of `part`, from a state that was tested. The state is taken apart once and put
+// together at the end, so that no event copies all of it; meanwhile the totals are in one table, and what moves look
+// up is kept up to date.
 fn play_events(state: State, tested: Tested, part: &[u8], count: usize, out: &mut [u8]) -> State
     requires { ⌜ (tested ≡ record { passes = sound state; naming = names (state .setup) })
         × (count ≡ playable (now part) (now out)) ⌝ }
@@ -111,7 +111,8 @@ fn play_events(state: State, tested: Tested, part: &[u8], count: usize, out: &mu
     }
 }
 
-// Plays as many events as `part` has whole and `out` has room for; the state after them, and how many they were.
+// Plays as many events as `part` has whole and `out` has room for, and writes the snapshot of each into `out`;
+// returns the state after them, and how many they were.
 pub fn play(state: State, part: &[u8], out: &mut [u8]) -> Played
     ensures { λ r. ⌜ (r, now (out .exit)) ≡ played state (now (part .entry)) (now (out .entry)) ⌝ }
 {

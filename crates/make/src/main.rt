@@ -11,22 +11,23 @@ use scenario::Told;
 ghost use Prim.Native.Nat.{_≤_};
 ghost use lib.ListN.{length};
 
+// What ends a line.
 const LINE_FEED: u8 = 10;
 
 // The buffer for the text: a line and its line feed fit.
 const TEXT: usize = 65536;
 
-// Every turn but the last reads a byte or more, so that no text takes as many.
+// More turns than any text takes: every turn but the last reads a byte or more.
 const MOST_TURNS: u64 = u64::MAX;
 
-// A scenario half read: the draft of its file, how many lines were read, and whether the output has ended.
+// A scenario partly read: the draft of its file, how many lines were read, and whether the output has ended.
 struct Making {
     draft: Draft,
     lines: u64,
     over: bool,
 }
 
-// What became of the whole lines in a buffer: the scenario behind them, and the place of the line that is not whole.
+// The scenario after the whole lines in a buffer, and the place of the line that is not whole.
 struct Rest {
     making: Making,
     at: usize,
@@ -38,7 +39,7 @@ struct More {
     failed: bool,
 }
 
-// Writes the block that an item completed, or says what is wrong with the item; gives whether the output has ended.
+// Writes the block that an item completed, or says what is wrong with the item; returns whether the output has ended.
 fn answer(told: Told, lines: u64, line: &[u8], block: &[u8]) -> bool {
     match told {
         Told::Kept => false,
@@ -60,6 +61,7 @@ fn answer(told: Told, lines: u64, line: &[u8], block: &[u8]) -> bool {
     }
 }
 
+// Takes one line.
 fn take_line(making: Making, line: &[u8]) -> Making {
     let mut block = [0u8; Block::SIZE];
     let lines = std::num::wrapping_add_u64(making.lines, 1);
@@ -70,7 +72,7 @@ fn take_line(making: Making, line: &[u8]) -> Making {
     Making { draft, lines, over }
 }
 
-// Takes each line of which the line feed came.
+// Takes each line whose line feed was read.
 fn take_lines(begun: Making, text: &[u8]) -> Rest
     ensures { λ r. ⌜ r .at ≤ length (now (text .entry)) ⌝ }
 {
@@ -88,7 +90,7 @@ fn take_lines(begun: Making, text: &[u8]) -> Rest
     Rest { making, at }
 }
 
-// The text has ended, perhaps within a line; its end completes the last block.
+// The end of the text, perhaps within a line; it completes the last block.
 fn take_end(begun: Making, rest: &[u8]) {
     let mut making = begun;
     if rest.len() > 0 {
@@ -108,7 +110,7 @@ fn take_end(begun: Making, rest: &[u8]) {
     }
 }
 
-// Moves what stands from a place on to the front.
+// Moves the bytes from `from` up to but not at `to` to the front.
 fn move_to_front(text: &mut [u8], from: usize, to: usize)
     requires { ⌜ (from ≤ to) × (to ≤ length (now text)) ⌝ }
 {
@@ -119,7 +121,7 @@ fn move_to_front(text: &mut [u8], from: usize, to: usize)
     }
 }
 
-// Reads more behind what is held; gives how much is held then. A read that fails ends the program's work.
+// Reads more after what is held; returns how much is held then, and whether the read failed.
 fn read_more(text: &mut [u8], held: usize) -> More
     requires { ⌜ held ≤ length (now text) ⌝ }
     ensures { λ r. ⌜ (held ≤ r .held) × (r .held ≤ length (now (text .exit))) ⌝ }

@@ -1,4 +1,4 @@
--- Document 01, 'Numbers': the limits, which are the constants of `Limit`.
+-- RULES.md, 'Numbers': the limits, which are the constants of `Limit`.
 use Prim.Native.Nat.{ℕ}
 
 abbrev pub mostProcessors : ℕ
@@ -22,6 +22,6 @@ mostRequests = 8
 abbrev pub nobody : ℕ
 nobody = 255
 
--- no resource, likewise
+-- no resource: what an empty place holds
 abbrev pub nothing : ℕ
 nothing = nobody

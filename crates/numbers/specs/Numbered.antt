@@ -1,4 +1,4 @@
--- What is stated of a list of refusals: which row is the first that applies, and which number stands at which row.
+-- What is stated about a list of refusals: which row is the first that applies, and which row has which number.
 use Prim.Native.Nat.{ℕ, zero, suc, _<_}
 use mathlib.Core.Path.{_≡_}
 use mathlib.Core.Bool.{Bool, true, false, _&&_}
@@ -7,21 +7,23 @@ use lib.ListN.{length, getD}
 use Rattle.search.specs.Words.{_is_, _isn't_}
 use Rattle.numbers.specs.Rows.{Row}
 
--- every row has a number; it computes, whatever the rows' tests are
+-- no row's number is 0; it computes without the rows' tests
 abbrev pub isNumbered : List Row → Bool
 isNumbered [] = true
 isNumbered (row ∷ rows) = row .0 isn't 0 && isNumbered rows
 
--- no row is numbered n; and n is the number of row i and of no other. Both compute, whatever the rows' tests are
+-- no row has the number n; it computes without the rows' tests
 abbrev pub isMissing : List Row → ℕ → Bool
 isMissing [] n = true
 isMissing (row ∷ rows) n = row .0 isn't n && isMissing rows n
 
+-- row i has the number n, and no other row has it; it computes without the rows' tests
 abbrev pub standsAt : List Row → ℕ → ℕ → Bool
 standsAt [] n i = false
 standsAt (row ∷ rows) n zero = row .0 is n && isMissing rows n
 standsAt (row ∷ rows) n (suc i) = row .0 isn't n && standsAt rows n i
 
+-- what is read past the last row; it never applies
 abbrev pub noRow : Row
 noRow = (0, false)
 

@@ -1,4 +1,4 @@
--- Document 01, 'Numbers handed back': each number of the list under its name, as the constants of `Refusal` have it.
+-- RULES.md, 'Numbers handed back': each number of the list by name, as in the constants of `Refusal`.
 use Prim.Native.Nat.{ℕ}
 
 -- ---- of a set-up
@@ -23,7 +23,7 @@ abbrev pub longInShort : ℕ
 longInShort = 5
 
 -- ---- of an event
--- the state is not sound
+-- the state is not sound; also for a line of a state
 abbrev pub notSound : ℕ
 notSound = 9
 
@@ -31,7 +31,7 @@ notSound = 9
 abbrev pub eventUnknown : ℕ
 eventUnknown = 10
 
--- kinds 1 to 4: task not in the table
+-- kinds 1 to 4, or a line of totals: task not in the table
 abbrev pub taskUnknown : ℕ
 taskUnknown = 11
 
@@ -87,7 +87,7 @@ wronglyNested = 23
 abbrev pub tooManyOpen : ℕ
 tooManyOpen = 24
 
--- completion: not the job's newest open request
+-- completion: not the job's newest open request, or none open
 abbrev pub notNewest : ℕ
 notNewest = 25
 
@@ -100,7 +100,8 @@ sizeWrong = 30
 abbrev pub checkWrong : ℕ
 checkWrong = 31
 
--- the number is not the one expected, or the index is above 999,999
+-- the number is not the one expected, or the index is above 999,999; an event block to be written: index 0 or above
+-- 999,999
 abbrev pub numberWrong : ℕ
 numberWrong = 32
 
@@ -108,7 +109,7 @@ numberWrong = 32
 abbrev pub blockKindWrong : ℕ
 blockKindWrong = 33
 
--- record count wrong
+-- record count wrong; an event block to be written: not 1 to 84 events
 abbrev pub recordCountWrong : ℕ
 recordCountWrong = 34
 
@@ -117,10 +118,10 @@ abbrev pub fillerWrong : ℕ
 fillerWrong = 35
 
 -- ---- of a lent buffer
--- of a line, under 96 bytes; of a page, under 84 lines
+-- for a line, under 96 bytes; for a page, under 8,064
 abbrev pub bufferShort : ℕ
 bufferShort = 36
 
--- of a block that is written, not 512 bytes
+-- for a block to be written, not 512 bytes
 abbrev pub roomWrong : ℕ
 roomWrong = 37

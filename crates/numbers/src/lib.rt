@@ -1,5 +1,5 @@
-// The numbers of a session: its limits, what stands for none, and the numbers handed back, each under its name; and
-// one row of a list of refusals. The lists and their laws are in specs/ and proofs/.
+// The numbers of a session: its limits, the mark for none, and the numbers handed back, each by name; and one row of
+// a list of refusals. Lists of refusals are defined in specs/, and their laws are in proofs/.
 ghost use mathlib.Core.Path.{_≡_};
 ghost use Rattle.search.specs.Words.{if_then_else_};
 
@@ -22,7 +22,7 @@ impl Limit {
     pub const NOTHING: u8 = Limit::NOBODY;
 }
 
-// The numbers handed back. Accepted is 0.
+// The numbers handed back; specs/Refusals says when each is given. Accepted is 0.
 pub struct Refusal {}
 
 impl Refusal {

@@ -12,9 +12,8 @@ use lib.Seq.{getD-take}
 use borrow.Author.Tests.{eq-eqb, ne-eqb}
 use Rattle.search.proofs.Tables.{table-length, table-at}
 use Rattle.numbers.specs.Limits.{mostTasks}
-use Rattle.input.specs.Layout.{byte, eventsIn}
+use Rattle.input.specs.Layout.{eventsIn}
 use Rattle.input.specs.declared.Setup.{Setup}
-use Rattle.input.specs.declared.Event.{Event}
 use Rattle.setups.specs.Refusals.{setupRefusal}
 use Rattle.setups.specs.Clearing.{cleared}
 use Rattle.setups.proofs.Accepted.{accepted-iff}
@@ -33,8 +32,8 @@ use Rattle.search.specs.Texts.{eachText}
 use Rattle.lines.specs.Texts.{firstText, blockText}
 use Rattle.pages.specs.Pages.{beginning, nextPage}
 use Rattle.blocks.specs.Files.{blocksOf, refusalOf, partOf, eventsFrom, setupOf, eventsOf}
-use Rattle.pages.specs.Files.{answersText, tasksText, endText, stateOf, fileState, fileText}
-use Rattle.pages.specs.Program.{pages, printed, Begins, DemandsHold, PrintsTheRules, FilesPrintTheRules, Accepted, IsARun, AcceptedIsARun, RefusalsAreReported}
+use Rattle.pages.specs.Files.{answersText, tasksText, endText, fileState, fileText}
+use Rattle.pages.specs.Program.{pages, FilesPrintTheRules, Accepted, AcceptedIsARun, RefusalsAreReported}
 use Rattle.pages.specs.declared.Session.{Session}
 use Rattle.pages.proofs.Answers.{answers-join}
 use Rattle.pages.proofs.Openings.{at, overAt, page-refused, page-end, page-played, page-used, pages-over, firstSetup, first-start, first-refused, setup-refused, setup-given, few-events, part-bytes}

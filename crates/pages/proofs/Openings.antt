@@ -1,20 +1,20 @@
 -- The page of each kind of thing read, told by the rules: an accepted block of events, a refused block, the end, and the first block. Assumes nothing.
-use Prim.Native.Nat.{ℕ, suc, _+_, _*_, _%_, _≤_, _<_, min}
-use mathlib.Core.Path.{_≡_, refl, sym, ap, _∙_}
+use Prim.Native.Nat.{ℕ, suc, _+_, _*_, _%_, _≤_, min}
+use mathlib.Core.Path.{_≡_, refl}
 use mathlib.Core.Bool.{Bool, true, false}
-use mathlib.Core.List.{List, [], _∷_, _++_}
+use mathlib.Core.List.{List, [], _∷_}
 use mathlib.Core.Logic.{_≢_}
 use native.Mathlib.Numerals.{add-one}
 use native.Mathlib.Decide.{ℕ-discrete, decLt}
 use native.Mathlib.Omega.{arith}
-use lib.ListN.{length, getD, take, drop, length-take, List·getD-eq-default}
+use lib.ListN.{length, take, drop, length-take, List·getD-eq-default}
 use lib.Seq.{getD-take, getD-drop}
 use borrow.Author.Tests.{eq-eqb, ne-eqb}
 use Rattle.numbers.specs.Rows.{firstOf}
 use Rattle.search.proofs.Tests.{tests}
 use Rattle.search.proofs.Tables.{table-length}
 use Rattle.numbers.specs.Limits.{mostProcessors, mostTasks}
-use Rattle.input.specs.Layout.{byte, startIn, setupIn, eventIn, eventCount, eventsIn}
+use Rattle.input.specs.Layout.{startIn, setupIn, eventIn, eventCount, eventsIn}
 use Rattle.input.specs.declared.Setup.{Setup}
 use Rattle.setups.specs.Refusals.{setupRefusal}
 use Rattle.setups.specs.Clearing.{cleared}
@@ -22,8 +22,8 @@ use Rattle.protocol.specs.Words.{lastClock}
 use Rattle.protocol.specs.Events.{begin, fresh, run}
 use Rattle.input.specs.Words.{noSetup}
 use Rattle.protocol.specs.declared.State.{State}
-use Rattle.blocks.specs.Sizes.{lastIndex, mostEvents, payloadAt}
-use Rattle.blocks.specs.Verdicts.{usedSize, isFirst, blockRows, verdict, usedPart, numberOf}
+use Rattle.blocks.specs.Sizes.{mostEvents, payloadAt}
+use Rattle.blocks.specs.Verdicts.{usedSize, isFirst, blockRows, verdict, usedPart}
 use Rattle.blocks.specs.OneByte.{AreBytes}
 use Rattle.blocks.specs.declared.Verdict.the-variants.{Used, Refused}
 use Rattle.blocks.proofs.Numbers.{judge-none}

@@ -1,4 +1,4 @@
--- Document 01, 'Printing', of a whole file: all the text, and the state at its end, by the rules alone.
+-- RULES.md, 'Printing', of a whole file: all the text, and the state at its end, by the rules alone.
 use Prim.Native.Nat.{ℕ, suc, _+_}
 use mathlib.Core.Bool.{_&&_}
 use mathlib.Core.List.{List, [], _∷_, _++_}
@@ -17,7 +17,7 @@ use Rattle.blocks.specs.Files.{refusalOf, firstBlock, laterBlocks, setupOf, eve
 use Rattle.lines.specs.Texts.{firstText, placeText, taskLineText, blockText, setupText}
 
 -- ---- what is printed
--- an event's line: its number, the answer, and per processor linked/running task
+-- an event's line: its number, the answer, and for each processor linked/running task
 unfoldable pub answerText : ℕ → ℕ → Reply → List ℕ
 answerText number m r =
     let p = r .state .processors in
@@ -27,7 +27,7 @@ answerText number m r =
 abbrev pub answersText : ℕ → ℕ → State → List Event → List ℕ
 answersText before m s es = eachText (λ n. answerText (before + suc n) m (replyAt s es n)) (length es)
 
--- a line for each of the first tasks
+-- a line for each of the first tasks of s
 abbrev pub tasksText : State → ℕ → List ℕ
 tasksText s = eachText (λ t. taskLineText t (task s t .totals))
 
@@ -48,6 +48,7 @@ module _ (blocks : List (List ℕ)) where
   fileState =
       if refusalOf (firstBlock blocks) 0 is 0 && setupRefusal (setupOf blocks) is 0 then stateOf else fresh noSetup
 
+  -- all that is printed
   unfoldable pub fileText : List ℕ
   fileText =
       let c = setupOf blocks in

@@ -1,4 +1,5 @@
--- Document 01, 'Printing': the page of lines that is printed of each block, and the last one, at the input's end.
+-- RULES.md, 'Printing': the page of lines that is printed of each block, and the last page, at the input's end. A
+-- page is given as the session after it and its text.
 use Prim.Native.Nat.{ℕ, suc, _+_, _*_, _%_, _<_, _≤_, min}
 use mathlib.Core.Path.{_≡_}
 use mathlib.Core.Bool.{Bool, true, false}
@@ -30,25 +31,24 @@ use Rattle.pages.specs.declared.Page.{Page}
 abbrev pub wide : ℕ
 wide = 18446744073709551616
 
--- the lines of the first of some events, on so many processors, numbered on from `events`
+-- the lines of the first of some events, from their snapshots `line`, numbered on from `events`
 abbrev pub eventsText : (ℕ → List ℕ) → ℕ → ℕ → ℕ → List ℕ
 eventsText line processors events = eachText (λ n. eventText ((events + suc n) % wide) processors (line n))
 
--- the n-th of the snapshots that were written one behind another
+-- snapshot n of those written one after another
 abbrev pub snapshotIn : List ℕ → ℕ → List ℕ
 snapshotIn written n = take snapshotSize (drop (snapshotSize * n) written)
 
--- before the first block
+-- the session before the first block
 unfoldable pub beginning : Session
 beginning = record { index = 0; events = 0; over = false; state = fresh noSetup; refused = false }
 
--- a page as the session after it and its text
 module _ (x : Session) where
   -- the output ends here, with a refusal or without
   abbrev pub ended : Bool → Session
   ended refused = record { index = x .index; events = x .events; over = true; state = x .state; refused = refused }
 
-  -- the first block gives a set-up: its first line, or its refusal
+  -- the first block's page: the first line, or the set-up's refusal
   abbrev pub setupPage : Reply → Session × List ℕ
   setupPage r =
       let c = r .state .setup in
@@ -58,7 +58,7 @@ module _ (x : Session) where
       )
       else (ended true, setupText (r .answer))
 
-  -- every other block gives events: a line for each
+  -- every other block's page: a line for each event
   abbrev pub eventPage : List ℕ → Session × List ℕ
   eventPage part = (
     record {
@@ -71,14 +71,14 @@ module _ (x : Session) where
     eventsText (snapshotAt (x .state) part) (x .state .setup .processors) (x .events) (eventCount part),
   )
 
-  -- a refused block ends the output
+  -- a block's page; a refused block ends the output
   abbrev pub blockPage : List ℕ → Verdict → Session × List ℕ
   blockPage block (Used n) =
       let part = usedPart block (Used n) in
       if x .index is 0 then setupPage (begin (setupIn part)) else eventPage part
   blockPage block (Refused number) = (ended true, blockText (x .index) number)
 
-  -- the input's end: the totals of each task. At least one block is expected: without one, block 0 is not 512 bytes
+  -- the input's end: the totals of each task; without any block, block 0 is refused, as it has not 512 bytes
   abbrev pub lastPage : Session × List ℕ
   lastPage = (
     ended (x .index is 0),
@@ -86,22 +86,22 @@ module _ (x : Session) where
         else tasksText (x .state) (min (x .state .setup .tasks) mostTasks)),
   )
 
-  -- what is printed once `read` was read: a block, or nothing at the input's end
+  -- the page of what was read: a block, or nothing at the input's end; once the output is over, it is empty
   unfoldable pub nextPage : List ℕ → Session × List ℕ
   nextPage read =
       if x .over then (x, [])
       else if length read is 0 then lastPage
       else blockPage read (verdict read (x .index))
 
--- a page's buffer has so many bytes, or more: a line for each event of a block
+-- the least size of a page's buffer, in bytes: a line for each event of a block
 abbrev pub pageLimit : ℕ
 pageLimit = mostEvents * lineLimit
 
--- the page into a buffer
+-- a page written into a buffer
 unfoldable pub paged : Session × List ℕ → List ℕ → Page × List ℕ
 paged (x, text) out = (record { session = x; number = 0; len = length text }, written out 0 text)
 
--- in a buffer that is too short nothing is written, and nothing goes on
+-- a page into a buffer; if that is too short, the session is handed back and nothing is written
 unfoldable pub pageInto : Session → List ℕ → List ℕ → Page × List ℕ
 pageInto x read out =
     if ltb (length out) pageLimit then (record { session = x; number = bufferShort; len = 0 }, out)

@@ -1,5 +1,5 @@
--- The program over a whole file, and the theorems about it: what it prints is what document 01 says, and demand 3
--- holds at every line. `proofs/Files` proves them.
+-- RULES.md, 'Printing' and 'The demands', of the whole program: what it prints of a file is what the rules say, and
+-- demand 3 holds at every line. proofs/Files proves the theorems.
 use Prim.Native.Nat.{ℕ, suc, _<_}
 use mathlib.Core.Path.{_≡_}
 use mathlib.Core.Bool.{false}
@@ -18,7 +18,8 @@ use Rattle.blocks.specs.Files.{blocksOf, refusalOf, firstBlock, setupOf, events
 use Rattle.pages.specs.Files.{stateOf, answersText, tasksText, fileState, fileText}
 use Rattle.pages.specs.declared.Session.{Session}
 
--- ---- the program: a page of each thing read, one behind another. The end of a file reads nothing.
+-- ---- the program
+-- the session after some reads, and the text of their pages, one after another
 unfoldable pub pages : Session → List (List ℕ) → Session × List ℕ
 pages x [] = (x, [])
 pages x (read ∷ reads) =
@@ -26,6 +27,7 @@ pages x (read ∷ reads) =
     let rest = pages (page .0) reads in
     (rest .0, page .1 ++ rest .1)
 
+-- what is printed of a file; at its end the program reads nothing
 abbrev pub printed : List ℕ → List ℕ
 printed bytes = pages beginning (blocksOf bytes ++ ([] ∷ [])) .1
 
@@ -38,20 +40,24 @@ pub record Begins (blocks : List (List ℕ)) : Type 0 where
 abbrev pub DemandsHold : Setup → List Event → Type 0
 DemandsHold c es = (n : ℕ) → Demand3 c (plain (take n es)) × TotalsSum c (plain (take n es))
 
--- ---- any file: what is printed, the state after so many blocks, and the demands
+-- ---- any file
+-- what is printed, the state after each number of blocks, and the demands
 pub record PrintsTheRules (bytes : List ℕ) : Type 0 where
   pub text : printed bytes ≡ fileText (blocksOf bytes)
   pub states : (n : ℕ) → pages beginning (take n (blocksOf bytes)) .0 .state ≡ fileState (take n (blocksOf bytes))
   pub demands : Begins (blocksOf bytes) → DemandsHold (setupOf (blocksOf bytes)) (eventsOf (blocksOf bytes))
 
+-- that holds of every file
 abbrev pub FilesPrintTheRules : Type 0
 FilesPrintTheRules = (bytes : List ℕ) → AreBytes bytes → PrintsTheRules bytes
 
--- ---- a file whose blocks and set-up are accepted, by the rules alone: a run of its events from its set-up
+-- ---- an accepted file
+-- its blocks and its set-up are accepted
 pub record Accepted (blocks : List (List ℕ)) : Type 0 where
   pub begins : Begins blocks
   pub follow : (i : ℕ) → i < length blocks → refusalOf (getD blocks i []) i ≡ 0
 
+-- its text and its states are those of a run of its events from its set-up
 pub record IsARun (blocks : List (List ℕ)) : Type 0 where
   pub text : fileText blocks
       ≡ firstText (setupOf blocks .processors) (setupOf blocks .tasks) (setupOf blocks .start)
@@ -61,10 +67,12 @@ pub record IsARun (blocks : List (List ℕ)) : Type 0 where
   pub states : (n : ℕ) → n < length blocks
       → fileState (take (suc n) blocks) ≡ after (setupOf blocks) (plain (eventsOf (take (suc n) blocks)))
 
+-- that holds of every accepted file
 abbrev pub AcceptedIsARun : Type 0
 AcceptedIsARun = (blocks : List (List ℕ)) → Accepted blocks → IsARun blocks
 
--- ---- what the session says at the end of any file: nothing was refused exactly where the file is accepted
+-- ---- what the session says at the end of a file
+-- nothing was refused exactly where the file is accepted
 abbrev pub RefusalsAreReported : Type 0
 RefusalsAreReported = (bytes : List ℕ) → AreBytes bytes
     → (pages beginning (blocksOf bytes ++ ([] ∷ [])) .0 .refused ≡ false) ↔ Accepted (blocksOf bytes)

@@ -8,8 +8,8 @@ pub use printing::begin;
 pub use printing::next_page;
 use protocol::State;
 
-// What stands between two blocks: the index of the next one, the events so far, whether the output has ended, the
-// state, and whether a block or the set-up was refused, which ends the output.
+// What is kept between two blocks: the index of the next one, the number of events so far, whether the output has
+// ended, the state, and whether a block or the set-up was refused, which ends the output.
 pub struct Session {
     pub index: u64,
     pub events: u64,
@@ -18,8 +18,7 @@ pub struct Session {
     pub refused: bool,
 }
 
-// What is given back of a page: the session after it, its number from the list (36: the buffer is too short) and its
-// length.
+// A page: the session after it, its number from the list (36: the buffer is too short) and the length of its text.
 pub struct Page {
     pub session: Session,
     pub number: u8,
@@ -27,6 +26,6 @@ pub struct Page {
 }
 
 impl Page {
-    // A page's buffer has so many bytes, or more: a line for each event of a block.
+    // The least size of a page's buffer, in bytes: a line for each event of a block.
     pub const LIMIT: usize = Block::MOST_EVENTS as usize * Line::LIMIT;
 }

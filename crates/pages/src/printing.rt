@@ -16,7 +16,7 @@ ghost use Rattle.blocks.specs.Sizes.{mostEvents};
 ghost use Rattle.blocks.specs.Verdicts.{verdict};
 ghost use Rattle.pages.specs.Pages.{beginning, wide, ended as endedHere, setupPage, eventPage, blockPage, lastPage, pageLimit, paged, pageInto};
 
-// Before the first block.
+// The session before the first block.
 pub fn begin() -> Session
     ensures { λ r. ⌜ r ≡ beginning ⌝ }
 {
@@ -48,10 +48,11 @@ fn ended(x: Session, refused: bool, len: usize) -> Page
     }
 }
 
-// The first block gives a set-up: its first line, or its refusal.
+// The first block's page: the first line, or the set-up's refusal.
 fn setup_page(x: Session, part: &[u8], out: &mut [u8]) -> Page
     requires { ⌜ pageLimit ≤ length (now out) ⌝ }
-    ensures { λ r. ⌜ ((r, now (out .exit)) ≡ paged (setupPage x (beginRule (setupIn (now (part .entry))))) (now (out .entry)))
+    ensures { λ r. ⌜ ((r, now (out .exit))
+        ≡ paged (setupPage x (beginRule (setupIn (now (part .entry))))) (now (out .entry)))
         × (r .len ≤ length (now (out .exit))) ⌝ }
 {
     let reply = states::begin(input::setup_from(part));
@@ -76,7 +77,7 @@ fn setup_page(x: Session, part: &[u8], out: &mut [u8]) -> Page
     }
 }
 
-// Every other block gives events: a line for each.
+// Every other block's page: a line for each event.
 fn event_page(x: Session, part: &[u8], out: &mut [u8]) -> Page
     requires { ⌜ (pageLimit ≤ length (now out)) × (eventCount (now part) ≤ mostEvents) × (x .index + 1 < wide) ⌝ }
     ensures { λ r. ⌜ ((r, now (out .exit)) ≡ paged (eventPage x (now (part .entry))) (now (out .entry)))
@@ -103,7 +104,7 @@ fn event_page(x: Session, part: &[u8], out: &mut [u8]) -> Page
     }
 }
 
-// A refused block ends the output.
+// A block's page; a refused block ends the output.
 fn block_page(x: Session, block: &[u8], out: &mut [u8]) -> Page
     requires { ⌜ pageLimit ≤ length (now out) ⌝ }
     ensures { λ r. ⌜ ((r, now (out .exit))
@@ -124,7 +125,7 @@ fn block_page(x: Session, block: &[u8], out: &mut [u8]) -> Page
     }
 }
 
-// The input's end: the totals of each task. At least one block is expected.
+// The input's end: the totals of each task; without any block, block 0 is refused.
 fn last_page(x: Session, out: &mut [u8]) -> Page
     requires { ⌜ pageLimit ≤ length (now out) ⌝ }
     ensures { λ r. ⌜ ((r, now (out .exit)) ≡ paged (lastPage x) (now (out .entry)))
@@ -139,7 +140,8 @@ fn last_page(x: Session, out: &mut [u8]) -> Page
     ended(x, false, len)
 }
 
-// What is printed once `read` was read: a block, or nothing at the input's end.
+// The page of what was read: a block, or nothing at the input's end; once the output is over, it is empty. A buffer
+// that is too short is refused with 36.
 pub fn next_page(x: Session, read: &[u8], out: &mut [u8]) -> Page
     ensures { λ r. ⌜ ((r, now (out .exit)) ≡ pageInto x (now (read .entry)) (now (out .entry)))
         × (r .len ≤ length (now (out .exit))) ⌝ }

@@ -1,4 +1,4 @@
-// Several lines, one behind the other, into a buffer.
+// Several lines, one after another, into a buffer.
 use input::Setup;
 use protocol::Reply;
 use protocol::State;
@@ -13,7 +13,7 @@ ghost use Rattle.lines.specs.Texts.{taskLineText};
 ghost use Rattle.pages.specs.Files.{tasksText};
 ghost use Rattle.pages.specs.Pages.{snapshotIn, eventsText};
 
-// An event's line from a place on; gives the place behind it.
+// Writes an event's line from `at` on; returns the next write position.
 fn put_event(out: &mut [u8], at: usize, number: u64, processors: usize, line: &[u8]) -> usize
     requires { ⌜ at + lineLimit ≤ length (now out) ⌝ }
     ensures { λ r. ⌜ Put (now (out .entry)) at (eventText number processors (now (line .entry))) r (now (out .exit))
@@ -23,7 +23,8 @@ fn put_event(out: &mut [u8], at: usize, number: u64, processors: usize, line: &[
     at + put.len
 }
 
-// The lines of `count` events, as they were written, numbered on from `events`; gives their length.
+// Writes the lines of `count` events, from their snapshots in `written`, numbered on from `events`; returns their
+// length.
 pub fn put_events(
     out: &mut [u8],
     written: &[u8],
@@ -46,7 +47,7 @@ pub fn put_events(
     at
 }
 
-// A task's totals from a place on; gives the place behind them.
+// Writes a task's line from `at` on; returns the next write position.
 fn put_task(out: &mut [u8], at: usize, t: u8, totals: [u32; Task::TOTALS]) -> usize
     requires { ⌜ at + lineLimit ≤ length (now out) ⌝ }
     ensures { λ r. ⌜ Put (now (out .entry)) at (taskLineText t totals) r (now (out .exit)) × (r ≤ at + lineLimit) ⌝ }
@@ -55,7 +56,7 @@ fn put_task(out: &mut [u8], at: usize, t: u8, totals: [u32; Task::TOTALS]) -> us
     at + put.len
 }
 
-// No more tasks than a state can have.
+// How many tasks are listed: no more than a state can have.
 fn listed(tasks: usize) -> usize
     ensures { λ r. ⌜ r ≡ min tasks mostTasks ⌝ }
 {
@@ -66,10 +67,11 @@ fn listed(tasks: usize) -> usize
     }
 }
 
-// The totals of each task; gives the lines' length.
+// Writes each task's line; returns their length.
 pub fn put_tasks(out: &mut [u8], state: State) -> usize
     requires { ⌜ lineLimit * mostTasks ≤ length (now out) ⌝ }
-    ensures { λ r. ⌜ Put (now (out .entry)) 0 (tasksText state (min (state .setup .tasks) mostTasks)) r (now (out .exit))
+    ensures { λ r. ⌜ Put (now (out .entry)) 0
+        (tasksText state (min (state .setup .tasks) mostTasks)) r (now (out .exit))
         × (r ≤ lineLimit * mostTasks) ⌝ }
 {
     let setup = state.setup;

@@ -1,4 +1,4 @@
-// The scheduler's part of the sound state, as a test of any content.
+// The test of the scheduler's part of the sound state, for any content.
 mod placing;
 
 pub use placing::is_placed;

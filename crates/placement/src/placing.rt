@@ -1,7 +1,9 @@
-// The scheduler's part of the sound state, as a test of any content.
+// The test of the scheduler's part of the sound state, for any content.
 use numbers::Limit;
 use processors::Jobs;
+use processors::Modes;
 use processors::Processors;
+use processors::Ranks;
 use processors::is_higher;
 use processors::is_unlinked;
 use processors::link_at;
@@ -17,13 +19,14 @@ ghost use Rattle.processors.specs.Words.{jobsFrom};
 ghost use Rattle.scheduler.specs.PlacedTest.{runnableTask, linkHolds, runHolds, linksHigher, taskHolds, processorHolds, isPlaced};
 
 // `t` is a task with a runnable job.
-fn is_runnable_task(modes: &[u8; Jobs::LIMIT], t: u8) -> bool
+fn is_runnable_task(modes: &Modes, t: u8) -> bool
     ensures { λ r. ⌜ r ≡ runnableTask (jobsFrom [] (now (modes .entry))) t ⌝ }
 {
     (t < Jobs::END) & (Jobs::PREEMPTABLE <= mode_of(modes, t))
 }
 
-fn link_holds(p: Processors, modes: &[u8; Jobs::LIMIT], k: usize) -> bool
+// The clauses of the link of processor `k`.
+fn link_holds(p: Processors, modes: &Modes, k: usize) -> bool
     ensures { λ r. ⌜ r ≡ linkHolds p (jobsFrom [] (now (modes .entry))) k ⌝ }
 {
     let t = link_at(p, k);
@@ -35,7 +38,8 @@ fn link_holds(p: Processors, modes: &[u8; Jobs::LIMIT], k: usize) -> bool
     (!some | (runnable & once & !idle)) & (some | idle)
 }
 
-fn run_holds(p: Processors, modes: &[u8; Jobs::LIMIT], k: usize) -> bool
+// The clauses of the job on processor `k`.
+fn run_holds(p: Processors, modes: &Modes, k: usize) -> bool
     ensures { λ r. ⌜ r ≡ runHolds p (jobsFrom [] (now (modes .entry))) k ⌝ }
 {
     let t = runs_at(p, k);
@@ -48,7 +52,8 @@ fn run_holds(p: Processors, modes: &[u8; Jobs::LIMIT], k: usize) -> bool
     !some | (runnable & once & here & kept)
 }
 
-fn links_higher(p: Processors, ranks: &[u64; Jobs::LIMIT], t: u8, k: usize) -> bool
+// Processor `k`, if it is one, is linked to a job higher than `t`.
+fn links_higher(p: Processors, ranks: &Ranks, t: u8, k: usize) -> bool
     ensures { λ r. ⌜ r ≡ linksHigher p (jobsFrom (now (ranks .entry)) []) t k ⌝ }
 {
     let u = link_at(p, k);
@@ -56,7 +61,8 @@ fn links_higher(p: Processors, ranks: &[u64; Jobs::LIMIT], t: u8, k: usize) -> b
     !(k < p.count) | ((u != Limit::NOBODY) & higher)
 }
 
-fn all_link_higher(p: Processors, ranks: &[u64; Jobs::LIMIT], t: u8) -> bool
+// Every processor is linked to a job higher than `t`.
+fn all_link_higher(p: Processors, ranks: &Ranks, t: u8) -> bool
     ensures { λ r. ⌜ r ≡ allBelow mostProcessors (linksHigher p (jobsFrom (now (ranks .entry)) []) t) ⌝ }
 {
     let mut ok = true;
@@ -66,7 +72,9 @@ fn all_link_higher(p: Processors, ranks: &[u64; Jobs::LIMIT], t: u8) -> bool
     ok
 }
 
-fn task_holds(p: Processors, ranks: &[u64; Jobs::LIMIT], modes: &[u8; Jobs::LIMIT], t: u8) -> bool
+// The clauses of task `t`: if it is runnable and unlinked, every processor is linked to a higher job; if it is
+// non-preemptable, it runs.
+fn task_holds(p: Processors, ranks: &Ranks, modes: &Modes, t: u8) -> bool
     ensures { λ r. ⌜ r ≡ taskHolds p (jobsFrom (now (ranks .entry)) (now (modes .entry))) t ⌝ }
 {
     let below = !is_unlinked(p, modes, t) | all_link_higher(p, ranks, t);
@@ -75,7 +83,7 @@ fn task_holds(p: Processors, ranks: &[u64; Jobs::LIMIT], modes: &[u8; Jobs::LIMI
 }
 
 // The clauses of processor `k`.
-fn processor_holds(p: Processors, modes: &[u8; Jobs::LIMIT], k: usize) -> bool
+fn processor_holds(p: Processors, modes: &Modes, k: usize) -> bool
     ensures { λ r. ⌜ r ≡ processorHolds p (jobsFrom [] (now (modes .entry))) k ⌝ }
 {
     let empty = (link_at(p, k) == Limit::NOBODY) & (runs_at(p, k) == Limit::NOBODY);
@@ -83,7 +91,8 @@ fn processor_holds(p: Processors, modes: &[u8; Jobs::LIMIT], k: usize) -> bool
     link_holds(p, modes, k) & run_holds(p, modes, k) & beyond
 }
 
-fn all_processors_hold(p: Processors, modes: &[u8; Jobs::LIMIT]) -> bool
+// The clauses of every processor.
+fn all_processors_hold(p: Processors, modes: &Modes) -> bool
     ensures { λ r. ⌜ r ≡ allBelow mostProcessors (processorHolds p (jobsFrom [] (now (modes .entry)))) ⌝ }
 {
     let mut ok = true;
@@ -93,7 +102,8 @@ fn all_processors_hold(p: Processors, modes: &[u8; Jobs::LIMIT]) -> bool
     ok
 }
 
-fn all_tasks_hold(p: Processors, ranks: &[u64; Jobs::LIMIT], modes: &[u8; Jobs::LIMIT]) -> bool
+// The clauses of every task.
+fn all_tasks_hold(p: Processors, ranks: &Ranks, modes: &Modes) -> bool
     ensures { λ r. ⌜ r ≡ allBelow mostTasks (taskHolds p (jobsFrom (now (ranks .entry)) (now (modes .entry)))) ⌝ }
 {
     let mut ok = true;
@@ -103,6 +113,7 @@ fn all_tasks_hold(p: Processors, ranks: &[u64; Jobs::LIMIT], modes: &[u8; Jobs::
     ok
 }
 
+// Links and placements hold.
 pub fn is_placed(p: Processors, jobs: Jobs) -> bool
     ensures { λ r. ⌜ r ≡ isPlaced p jobs ⌝ }
 {

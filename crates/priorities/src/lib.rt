@@ -1,4 +1,4 @@
-// The view of jobs that the scheduler is told: each with its priority, inherited priority counted, and its mode.
+// What the scheduler is given of each job: its priority, inherited priority counted, and its mode.
 mod ranks;
 
 pub use ranks::jobs_of;

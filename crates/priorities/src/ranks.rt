@@ -1,4 +1,4 @@
-// Priorities, and the view of jobs that the scheduler is told.
+// Priorities, and what the scheduler is given of each job.
 use input::Setup;
 use processors::Jobs;
 use protocol::Group;
@@ -17,10 +17,10 @@ ghost use Rattle.protocol.specs.Records.{noTask};
 ghost use Rattle.protocol.specs.Ranks.{leastOf, modeFor};
 ghost use Rattle.priorities.specs.Bounds.{rankBy, rankAt, rankBefore, rankWith, modeIn, jobsIn};
 
-// No deadline of a sound state is past this.
+// 2 to the power of 40: no deadline of a sound state is past it, and the ranks up to it fit 64 bits.
 const LATEST: u64 = 1099511627776;
 
-// A task's own rank: earlier deadline, then lower number; 0 past the latest deadline.
+// A task's own rank: lower for an earlier deadline, then for a lower task number; 0 past the latest deadline.
 pub fn own_rank(deadline: u64, t: u8) -> u64
     ensures { λ r. ⌜ r ≡ rankBy deadline t ⌝ }
 {
@@ -31,6 +31,7 @@ pub fn own_rank(deadline: u64, t: u8) -> u64
     }
 }
 
+// The own rank of each task.
 pub fn own_ranks(tasks: [Task; Setup::TASKS]) -> [u64; Setup::TASKS]
     ensures { λ r. ⌜ r ≡ table (λ t. rankBy (getD tasks t noTask .deadline) t) mostTasks ⌝ }
 {
@@ -42,7 +43,7 @@ pub fn own_ranks(tasks: [Task; Setup::TASKS]) -> [u64; Setup::TASKS]
     ranks
 }
 
-// The own rank of task `t`; past the table, that of no task.
+// The own rank of task `t`; past the table, that of no task, whose deadline is 0.
 fn rank_at(ranks: &[u64; Setup::TASKS], t: u8) -> u64
     ensures { λ r. ⌜ r ≡ rankAt (now (ranks .entry)) t ⌝ }
 {
@@ -50,13 +51,15 @@ fn rank_at(ranks: &[u64; Setup::TASKS], t: u8) -> u64
     if i < Setup::TASKS { ranks[i] } else { t as u64 }
 }
 
+// The lesser of two ranks.
 fn least(a: u64, b: u64) -> u64
     ensures { λ r. ⌜ r ≡ min a b ⌝ }
 {
     if a < b { a } else { b }
 }
 
-// How many places of a queue of `len` to read: each from the capacity on reads nobody, so one of those is enough.
+// How many places to read of a queue of `len`, which may be any number: each place from the capacity on reads nobody,
+// so one of those is enough.
 fn read_places(len: usize) -> usize
     ensures { λ r. ⌜ r ≡ min len (suc capacity) ⌝ }
 {
@@ -67,7 +70,7 @@ fn read_places(len: usize) -> usize
     }
 }
 
-// The least of `rank` and the ranks of those that wait.
+// The least of `rank` and the own ranks of the tasks that wait in the queue.
 fn least_waiting(ranks: &[u64; Setup::TASKS], queue: Queue, rank: u64) -> u64
     ensures { λ r. ⌜ r ≡ leastOf (λ i. rankAt (now (ranks .entry)) (waiter queue i)) (queue .len) rank ⌝ }
 {
@@ -78,7 +81,7 @@ fn least_waiting(ranks: &[u64; Setup::TASKS], queue: Queue, rank: u64) -> u64
     best
 }
 
-// How many groups the table has of those of `resources` resources.
+// How many groups to read: as many as there are resources, and no more than the table has.
 fn read_groups(resources: usize) -> usize
     ensures { λ r. ⌜ r ≡ min resources mostResources ⌝ }
 {
@@ -89,7 +92,8 @@ fn read_groups(resources: usize) -> usize
     }
 }
 
-// The ranks before any group is looked at. `queue` stands at the place past the groups; in a sound state it is empty.
+// The ranks before any group is read. By the rule a task that holds no long group takes the queue at the place past
+// the groups, which is `queue`; in a sound state it is empty.
 fn unraised(own: [u64; Setup::TASKS], queue: Queue) -> [u64; Setup::TASKS]
     ensures { λ r. ⌜ r ≡ table (rankBefore own queue) mostTasks ⌝ }
 {
@@ -103,8 +107,8 @@ fn unraised(own: [u64; Setup::TASKS], queue: Queue) -> [u64; Setup::TASKS]
     ranks
 }
 
-// The effective ranks, from the own ones: those that wait for a long group raise its holder. From the last group to
-// the first, so that the lowest that a task holds stays.
+// The effective ranks, from the own ones: the holder of a long group inherits from those that wait for it. The loop
+// goes from the last group to the first, so that of several groups with one holder the lowest remains.
 pub fn ranks_of(
     own: [u64; Setup::TASKS],
     kinds: [u8; Setup::RESOURCES],
@@ -134,7 +138,7 @@ pub fn ranks_of(
     ranks
 }
 
-// `holds`: a short request is open.
+// The mode of a job by its standing; `holds` says whether a short request is open.
 fn mode_for(standing: Standing, holds: bool) -> u8
     ensures { λ r. ⌜ r ≡ modeFor standing holds ⌝ }
 {
@@ -152,6 +156,7 @@ fn mode_for(standing: Standing, holds: bool) -> u8
     }
 }
 
+// The mode of a task's job, by its record.
 pub fn mode_in(kinds: [u8; Setup::RESOURCES], task: Task) -> u8
     ensures { λ r. ⌜ r ≡ modeIn kinds task ⌝ }
 {
@@ -161,6 +166,7 @@ pub fn mode_in(kinds: [u8; Setup::RESOURCES], task: Task) -> u8
     mode_for(standing, holds)
 }
 
+// The mode of each task's job.
 pub fn modes_of(kinds: [u8; Setup::RESOURCES], tasks: [Task; Setup::TASKS]) -> [u8; Setup::TASKS]
     ensures { λ r. ⌜ r ≡ table (λ t. modeIn kinds (getD tasks t noTask)) mostTasks ⌝ }
 {
@@ -172,7 +178,7 @@ pub fn modes_of(kinds: [u8; Setup::RESOURCES], tasks: [Task; Setup::TASKS]) -> [
     modes
 }
 
-// What the scheduler is told of the jobs, by the kinds and the number of the resources, the tasks and the groups.
+// What the scheduler is given of the jobs, from the kinds and the count of the resources, the tasks and the groups.
 pub fn jobs_of(
     kinds: [u8; Setup::RESOURCES],
     resources: usize,

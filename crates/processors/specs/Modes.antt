@@ -5,8 +5,10 @@ use Prim.Native.Nat.{ℕ}
 abbrev pub off : ℕ
 off = 0
 
+-- runnable, and may be stopped for a higher job
 abbrev pub preemptable : ℕ
 preemptable = 1
 
+-- runnable, and may not be stopped
 abbrev pub nonPreemptable : ℕ
 nonPreemptable = 2

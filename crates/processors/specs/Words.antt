@@ -1,4 +1,4 @@
--- What the rules of links and placements speak of.
+-- The words of the rules for links and placements.
 use Prim.Native.Nat.{ℕ}
 use mathlib.Core.Bool.{Bool, _&&_}
 use mathlib.Core.List.{List}
@@ -13,7 +13,7 @@ use Rattle.processors.specs.declared.Jobs.{Jobs}
 use Rattle.processors.specs.declared.Processors.{Processors}
 
 -- ---- jobs
--- what is told of each task's job: its rank and its mode
+-- what the scheduler is given of each task's job: its rank and its mode
 abbrev pub jobsFrom : List ℕ → List ℕ → Jobs
 jobsFrom ranks modes = record { ranks = ranks; modes = modes }
 
@@ -21,13 +21,15 @@ jobsFrom ranks modes = record { ranks = ranks; modes = modes }
 unfoldable pub firstModes : ℕ → List ℕ → List ℕ
 firstModes n modes = table (λ t. if ltb t n then getD modes t off else off) mostTasks
 
--- past the last task the rank is 0, and no job is runnable
+-- the rank of t's job; 0 past the last task
 unfoldable pub rankOf : Jobs → ℕ → ℕ
 rankOf j t = if ltb t mostTasks then getD (j .ranks) t 0 else 0
 
+-- the mode of t's job; `off` past the last task
 unfoldable pub modeOf : Jobs → ℕ → ℕ
 modeOf j t = if ltb t mostTasks then getD (j .modes) t off else off
 
+-- t's job is preemptable or non-preemptable
 abbrev pub isRunnable : Jobs → ℕ → Bool
 isRunnable j t = leb preemptable (modeOf j t)
 
@@ -40,10 +42,11 @@ abbrev pub isAhead : Jobs → ℕ → ℕ → Bool
 isAhead j t a = isRunnable j a && isHigher j a t
 
 -- ---- processors
--- the task that processor k is linked to, and the task that it runs, or nobody
+-- the task that processor k is linked to, or nobody
 abbrev pub link : Processors → ℕ → ℕ
 link p k = getD (p .linked) k nobody
 
+-- the task that processor k runs, or nobody
 abbrev pub runs : Processors → ℕ → ℕ
 runs p k = getD (p .running) k nobody
 
@@ -51,10 +54,11 @@ runs p k = getD (p .running) k nobody
 abbrev pub placeOf : List ℕ → ℕ → ℕ
 placeOf l t = first (λ k. getD l k nobody is t) 0 mostProcessors
 
--- the processor that is linked to t, and the one that runs t
+-- the processor that is linked to t; `mostProcessors` for none
 unfoldable pub linkOf : Processors → ℕ → ℕ
 linkOf p t = placeOf (p .linked) t
 
+-- the processor that runs t; `mostProcessors` for none
 unfoldable pub runOf : Processors → ℕ → ℕ
 runOf p t = placeOf (p .running) t
 
@@ -75,7 +79,7 @@ placeOn p k t = record { count = p .count; linked = set (p .linked) k t; running
 abbrev pub linkOn : Processors → ℕ → ℕ → Processors
 linkOn p k t = record { count = p .count; linked = set (p .linked) k t; running = p .running }
 
--- none of `count` processors has a link, and none runs a job
+-- `count` processors, none linked and none running a job
 unfoldable pub noneLinked : ℕ → Processors
 noneLinked count = record {
   count = count;

@@ -1,10 +1,10 @@
-// One processor changed.
+// Processors without links, and one processor changed.
 use crate::Processors;
 use numbers::Limit;
 ghost use mathlib.Core.Path.{_≡_};
 ghost use Rattle.processors.specs.Words.{placeOn, linkOn, noneLinked};
 
-// Nobody is linked to any of `count` processors, and nobody runs.
+// `count` processors, none linked and none running a job.
 pub fn none_linked(count: usize) -> Processors
     ensures { λ r. ⌜ r ≡ noneLinked count ⌝ }
 {
@@ -15,7 +15,7 @@ pub fn none_linked(count: usize) -> Processors
     }
 }
 
-// `k` is linked to `t`, and runs what it ran.
+// Processor `k` is linked to `t`, and runs what it ran.
 pub fn link_on(p: Processors, k: usize, t: u8) -> Processors
     ensures { λ r. ⌜ r ≡ linkOn p k t ⌝ }
 {
@@ -26,7 +26,7 @@ pub fn link_on(p: Processors, k: usize, t: u8) -> Processors
     next
 }
 
-// `k` is linked to `t` and runs it.
+// Processor `k` is linked to `t` and runs it; `t` may be nobody.
 pub fn place_on(p: Processors, k: usize, t: u8) -> Processors
     ensures { λ r. ⌜ r ≡ placeOn p k t ⌝ }
 {

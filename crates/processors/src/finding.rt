@@ -1,6 +1,9 @@
-// What the moves look up: a task's job, a processor's tasks, and a task's processor.
+// What the moves look up: a task's job, a processor's tasks, and a task's processor. A function that reads only one
+// table of `Jobs` has a contract that leaves the other one empty.
 use crate::Jobs;
+use crate::Modes;
 use crate::Processors;
+use crate::Ranks;
 use numbers::Limit;
 ghost use mathlib.Core.Path.{_≡_};
 ghost use mathlib.Core.List.{[]};
@@ -8,16 +11,16 @@ ghost use lib.ListN.{getD};
 ghost use Rattle.numbers.specs.Limits.{nobody};
 ghost use Rattle.processors.specs.Words.{jobsFrom, rankOf, modeOf, isHigher, link, runs, placeOf, linkOf, runOf, isUnlinked};
 
-// A rank is read from the ranks alone and a mode from the modes: the contracts leave the other table empty.
-fn rank_of(ranks: &[u64; Jobs::LIMIT], t: u8) -> u64
+// The rank of the job of `t`; 0 past the last task.
+fn rank_of(ranks: &Ranks, t: u8) -> u64
     ensures { λ r. ⌜ r ≡ rankOf (jobsFrom (now (ranks .entry)) []) t ⌝ }
 {
     let i = t as usize;
     if i < Jobs::LIMIT { ranks[i] } else { 0 }
 }
 
-// The mode of the job of `t`.
-pub fn mode_of(modes: &[u8; Jobs::LIMIT], t: u8) -> u8
+// The mode of the job of `t`; `Jobs::OFF` past the last task.
+pub fn mode_of(modes: &Modes, t: u8) -> u8
     ensures { λ r. ⌜ r ≡ modeOf (jobsFrom [] (now (modes .entry))) t ⌝ }
 {
     let i = t as usize;
@@ -25,7 +28,7 @@ pub fn mode_of(modes: &[u8; Jobs::LIMIT], t: u8) -> u8
 }
 
 // `a` has a higher priority than `b`.
-pub fn is_higher(ranks: &[u64; Jobs::LIMIT], a: u8, b: u8) -> bool
+pub fn is_higher(ranks: &Ranks, a: u8, b: u8) -> bool
     ensures { λ r. ⌜ r ≡ isHigher (jobsFrom (now (ranks .entry)) []) a b ⌝ }
 {
     rank_of(ranks, a) < rank_of(ranks, b)
@@ -58,7 +61,8 @@ pub fn runs_at(p: Processors, k: usize) -> u8
     task_at(tasks, k)
 }
 
-// The first processor with task `t` in a list of the processors' tasks, or `Processors::LIMIT`.
+// The first processor with task `t` in a list of the processors' tasks, or `Processors::LIMIT`. The loop counts down,
+// so that the first one remains.
 fn place_of(tasks: [u8; Processors::LIMIT], t: u8) -> usize
     ensures { λ r. ⌜ r ≡ placeOf tasks t ⌝ }
 {
@@ -87,7 +91,7 @@ pub fn run_of(p: Processors, t: u8) -> usize
 }
 
 // `t` is runnable and no processor is linked to it.
-pub fn is_unlinked(p: Processors, modes: &[u8; Jobs::LIMIT], t: u8) -> bool
+pub fn is_unlinked(p: Processors, modes: &Modes, t: u8) -> bool
     ensures { λ r. ⌜ r ≡ isUnlinked p (jobsFrom [] (now (modes .entry))) t ⌝ }
 {
     if Jobs::PREEMPTABLE <= mode_of(modes, t) {

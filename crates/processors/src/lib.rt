@@ -1,4 +1,4 @@
-// Who is linked and who runs: the processors, and the rank and mode of each task's job.
+// Which tasks are linked and which run: the processors, and the rank and mode of each task's job.
 mod changing;
 mod finding;
 
@@ -14,7 +14,7 @@ pub use finding::run_of;
 pub use finding::runs_at;
 use numbers::Limit;
 
-// Each processor's linked task and the task on it; nobody from `count` on.
+// The task that each processor is linked to, and the task that it runs; both nobody from `count` on.
 pub struct Processors {
     pub count: usize,
     pub linked: [u8; Processors::LIMIT],
@@ -25,17 +25,23 @@ impl Processors {
     pub const LIMIT: usize = Limit::PROCESSORS;
 }
 
+// The rank of each task's job.
+pub type Ranks = [u64; Jobs::LIMIT];
+
+// The mode of each task's job.
+pub type Modes = [u8; Jobs::LIMIT];
+
 // What the scheduler knows of each task's job: its rank, lower for a higher priority, and its mode.
 pub struct Jobs {
-    pub ranks: [u64; Jobs::LIMIT],
-    pub modes: [u8; Jobs::LIMIT],
+    pub ranks: Ranks,
+    pub modes: Modes,
 }
 
 impl Jobs {
     pub const LIMIT: usize = Limit::TASKS;
-    // Past the last task; a search that finds no task answers so.
+    // Past the last task: what a search that finds no task returns.
     pub const END: u8 = Jobs::LIMIT as u8;
-    // The modes: no runnable job, as of a task whose job is suspended; or a runnable job, and which kind.
+    // The modes: not runnable (no job, or a suspended one), preemptable, non-preemptable.
     pub const OFF: u8 = 0;
 
     pub const PREEMPTABLE: u8 = 1;

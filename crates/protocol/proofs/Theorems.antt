@@ -9,10 +9,9 @@ use Rattle.processors.specs.Words.{noneLinked}
 use Rattle.setups.specs.Refusals.{setupRefusal}
 use Rattle.setups.specs.Clearing.{cleared, emptyFrom, isClear}
 use Rattle.input.specs.declared.Setup.{Setup}
-use Rattle.input.specs.declared.Event.{Event}
 use Rattle.protocol.specs.Records.{noTask, noGroup}
 use Rattle.protocol.specs.Events.{Move, fresh, begin, after}
-use Rattle.protocol.specs.Demands.{Given, LinksHighest, ShortQueue, AlwaysSound, AlwaysDemand3, AlwaysCharges, AlwaysSums, RefusedLeftOut, RefusedKeeps, IsEmpty, RefusedIsEmpty}
+use Rattle.protocol.specs.Demands.{Given, LinksHighest, ShortQueue, AlwaysSound, AlwaysDemand3, AlwaysCharges, AlwaysSums, RefusedLeftOut, RefusedKeeps, RefusedIsEmpty}
 use Rattle.protocol.proofs.Sound.Statements.{Sound}
 use Rattle.protocol.proofs.Sound.Begin.{begin-sound}
 use Rattle.protocol.proofs.Sound.Reflect.{test-of-sound}

@@ -1,7 +1,7 @@
 -- Computed with the rules: runs that meet the premises of the theorems, so none of them speaks of nothing. Assumes nothing.
 use Prim.Native.Nat.{_<_}
 use mathlib.Core.Bool.{false}
-use mathlib.Core.List.{List, [], _∷_, _++_}
+use mathlib.Core.List.{List, [], _∷_}
 use mathlib.Core.Path.{_≡_, refl}
 use native.Mathlib.Omega.{arith}
 use Rattle.search.specs.Below.{allBelow, anyBelow, howMany}
@@ -27,7 +27,7 @@ use Rattle.protocol.specs.Situations.{situation}
 use Rattle.protocol.specs.Sound.{clockSound, timesSound, requestsSound, waitingSound, groupSound, emptySound, sound}
 use Rattle.protocol.specs.Refusals.{misplaced, eventRows, judge}
 use Rattle.protocol.specs.Locks.{openOfKind, opens, enqueues, closes, frees, dequeues, passes}
-use Rattle.protocol.specs.Events.{cold, arrives, leaves, becomesPreemptable, givesWay, arriveEvent, finishEvent, requestEvent, completeEvent, charged, act, Move, stepBy, plain, runBy, step, run, fresh, begin, after}
+use Rattle.protocol.specs.Events.{cold, arrives, leaves, becomesPreemptable, givesWay, arriveEvent, finishEvent, requestEvent, completeEvent, charged, act, stepBy, plain, runBy, step, run, fresh, begin, after}
 use Rattle.protocol.specs.Cases.{given, event}
 use Rattle.protocol.specs.Demands.{Given, isRunnable, Waiting, WaitsFor, Before, handsOver, completions, ShortQueue}
 use Rattle.protocol.specs.declared.State.{State}

@@ -1,5 +1,5 @@
--- Document 01's twelve cases to be proved, P1 to P12: one table under one statement, computed with the rules. A step
--- is refused with 9 where the state is not sound, so the sound test runs at every step.
+-- RULES.md, 'The worked cases': the twelve cases P1 to P12, in one table under one statement, computed with the
+-- rules. A step is refused with 9 where the state is not sound, so the sound test runs at every step.
 use Prim.Native.Nat.{ℕ, _-_}
 use mathlib.Core.Bool.{Bool, true, false, _&&_}
 use mathlib.Core.List.{List, [], _∷_, _++_, map}
@@ -33,7 +33,7 @@ use Rattle.protocol.specs.Events.{arrives, leaves, becomesPreemptable, g
 use Rattle.protocol.specs.declared.State.{State}
 use Rattle.protocol.specs.declared.Reply.{Reply}
 
--- an event, its answer, and per processor who is linked and who runs
+-- an event, its answer, and for each processor the linked and the running task
 record Line : Type 0 where
   event : Event
   answer : ℕ
@@ -47,18 +47,21 @@ record Case : Type 0 where
   lines : List Line
   totals : List (List ℕ)
 
+-- two lists are equal
 abbrev same : List ℕ → List ℕ → Bool
 same [] [] = true
 same [] (y ∷ ys) = false
 same (x ∷ xs) [] = false
 same (x ∷ xs) (y ∷ ys) = x is y && same xs ys
 
+-- two lists of lists are equal
 abbrev sames : List (List ℕ) → List (List ℕ) → Bool
 sames [] [] = true
 sames [] (y ∷ ys) = false
 sames (x ∷ xs) [] = false
 sames (x ∷ xs) (y ∷ ys) = same x y && sames xs ys
 
+-- every case passes
 abbrev all : (Case → Bool) → List Case → Bool
 all ok [] = true
 all ok (x ∷ xs) = ok x && all ok xs
@@ -72,6 +75,7 @@ follows (l ∷ ls) totals s =
     r .answer is l .answer && same (take n (r .state .processors .linked)) (l .linked)
     && same (take n (r .state .processors .running)) (l .running) && follows ls totals (r .state)
 
+-- the set-up is accepted, its groups have these names, and its events give these lines and totals
 abbrev holds : Case → Bool
 holds c =
     let r = begin (c .setup) in
@@ -80,10 +84,11 @@ holds c =
     && follows (c .lines) (c .totals) (r .state)
 
 -- ---- how a case is written
+-- a list filled up to n places with 0
 abbrev filled : ℕ → List ℕ → List ℕ
 filled n xs = xs ++ replicate (n - length xs) 0
 
--- processors, start, periods, kinds, and the pairs' outer and inner resources
+-- a set-up by its processors, start, periods, kinds, and the outer and the inner resources of its pairs
 abbrev pub given : ℕ → ℕ → List ℕ → List ℕ → List ℕ → List ℕ → Setup
 given m start periods kinds outer inner = record {
   processors = m;
@@ -97,10 +102,11 @@ given m start periods kinds outer inner = record {
   inner = filled mostPairs inner;
 }
 
--- kind, task, resource, tick
+-- an event by its kind, task, resource and tick
 abbrev pub event : ℕ → ℕ → ℕ → ℕ → Event
 event k t r tick = record { kind = k; task = t; resource = r; tick = tick }
 
+-- a line by its event, answer, linked tasks and running tasks
 abbrev line : ℕ → ℕ → ℕ → ℕ → ℕ → List ℕ → List ℕ → Line
 line k t r tick a l n = record { event = event k t r tick; answer = a; linked = l; running = n }
 
@@ -110,6 +116,7 @@ two a b = a ∷ b ∷ []
 abbrev one : ℕ → List ℕ
 one a = a ∷ []
 
+-- the set-up of the printed case
 abbrev pub printed : Setup
 printed = given 2 65530 (100 ∷ 200 ∷ 50 ∷ []) (one 0) [] []
 
@@ -122,6 +129,7 @@ fourSteps =
     ∷ line 1 2 0 2 0 (two 0 2) (two 0 1)
     ∷ []
 
+-- the twelve cases
 abbrev cases : List Case
 cases =
     -- P1 to P8: the printed case
@@ -181,27 +189,32 @@ cases =
     }
     ∷ []
 
+-- every case holds
 pub cases-hold : all holds cases ≡ true
 unfolding allBelow anyBelow first best better table waiting queued empty appended movedUp withoutFirst placeOf tidyAt isTidy rankOf modeOf linkOf runOf noneLinked lowestFree lowestLinked displacing arrivingOn taken linking becomingPreemptable nextTask filling refilling leavingFrom leaving givingWay isPlaced setupRows setupRefusal joinedBy namesAfter names groupOf below cleared emptyFrom isClear fieldsOf stand asked deadline depth request holder len waiter own leastOf longHeld effective shortOpen jobs situation clockSound timesSound requestsSound waitingSound groupSound emptySound sound misplaced eventRows judge openOfKind opens enqueues closes frees dequeues passes arrives leaves becomesPreemptable givesWay arriveEvent finishEvent requestEvent completeEvent charged act stepBy step fresh begin
 cases-hold = refl
 
--- the first two events of the printed case, and what the rules answer to each
+-- the state that the printed case begins with
 abbrev pub opening : State
 opening = begin printed .state
 
+-- its first event
 abbrev pub event₁ : Event
 event₁ = event 1 0 0 65530
 
+-- its second event
 abbrev pub event₂ : Event
 event₂ = event 1 1 0 65532
 
+-- what the rules answer to the first
 abbrev pub reply₁ : Reply
 reply₁ = step opening event₁
 
+-- what the rules answer to the second
 abbrev pub reply₂ : Reply
 reply₂ = step (reply₁ .state) event₂
 
--- what tells the replies apart: the first answer, and who runs on a processor
+-- where the replies and the states differ: in the first answer, and in the task that a processor runs
 pub differences : (reply₁ .answer ≡ 0) × (runs (opening .processors) 0 ≡ 255) × (runs (reply₁ .state .processors) 0 ≡ 0)
     × (runs (reply₁ .state .processors) 1 ≡ 255) × (runs (reply₂ .state .processors) 1 ≡ 1)
 unfolding allBelow anyBelow first best better table waiting queued empty appended movedUp withoutFirst placeOf tidyAt isTidy rankOf modeOf linkOf runOf noneLinked lowestFree lowestLinked displacing arrivingOn taken linking becomingPreemptable nextTask filling refilling leavingFrom leaving givingWay isPlaced setupRows setupRefusal joinedBy namesAfter names groupOf below cleared emptyFrom isClear fieldsOf stand asked deadline depth request holder len waiter own leastOf longHeld effective shortOpen jobs situation clockSound timesSound requestsSound waitingSound groupSound emptySound sound misplaced eventRows judge openOfKind opens enqueues closes frees dequeues passes arrives leaves becomesPreemptable givesWay arriveEvent finishEvent requestEvent completeEvent charged act stepBy step fresh begin

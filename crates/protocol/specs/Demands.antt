@@ -1,6 +1,6 @@
--- Demand 3 and the totals, as statements about a state, an event or a list of events; and, at the end, the theorems:
--- that they hold of every run from an accepted set-up, `after`. `proofs/Theorems` proves them; nothing else need be
--- read to know what is promised.
+-- RULES.md, 'The demands' and 'Tick totals': demand 3 and the totals, as statements about a state, an event or a list
+-- of events; and, at the end, the theorems: that they hold of every run from an accepted set-up, `after`.
+-- proofs/Theorems proves them; nothing else need be read to know what is promised.
 use Prim.Native.Nat.{ℕ, zero, suc, _+_, _-_, _<_, _≤_, min}
 use mathlib.Core.Path.{_≡_}
 use mathlib.Core.Bool.{Bool, true, false, not, _&&_}
@@ -31,17 +31,19 @@ use Rattle.protocol.specs.Locks.{openOfKind, closes}
 use Rattle.protocol.specs.Events.{Prefers, Move, moved, stepBy, runBy, begin, after}
 use Rattle.protocol.specs.declared.State.{State}
 
--- ---- every run: an accepted set-up, and any events, refused ones among them, each with any suggestion of a processor
--- where someone arrives or resumes. (A start has four bytes.)
+-- ---- every run
+-- A run begins with such a set-up: accepted, and with a start of four bytes. Its events may be any, refused ones
+-- among them, each with any suggestion of a processor for a job that arrives or resumes.
 pub record Given (c : Setup) : Type 0 where
   pub accepted : setupRefusal c ≡ 0
   pub start : c .start ≤ lastClock
 
--- e is accepted in s, and is of a kind
+-- e is accepted in s, and is of kind k
 abbrev pub accepts : State → Event → ℕ → Bool
 accepts s e k = judge s e is 0 && e .kind is k
 
 -- ---- links
+-- some processor is linked to t
 abbrev pub Linked : State → ℕ → Type 0
 Linked s t = (k : ℕ) × (link (s .processors) k ≡ t)
 
@@ -65,38 +67,42 @@ pub record LinksHighest (s : State) (m : ℕ) : Type 0 where
   pub many : howMany (λ k. link (s .processors) k isn't nobody) mostProcessors
       ≡ min m (howMany (isRunnable s) mostTasks)
 
--- what the sound state asks of links and placements: what is settled of them, clause by clause, and linked jobs as
--- above
+-- the sound state's test of links and placements says exactly this: they are settled, clause by clause, and the
+-- linked jobs are the highest-priority runnable ones
 abbrev pub PlacedAsDemanded : Type 0
 PlacedAsDemanded = (s : State) → Sized (s .processors) → s .processors .count ≡ s .setup .processors
     → (isPlaced (s .processors) (jobs (s .setup) s) ≡ true)
     ↔ (Settled (s .processors) (jobs (s .setup) s) × LinksHighest s (s .setup .processors))
 
--- ---- locks: two tasks that have a request open in one group are one task, the group's holder
+-- ---- locks
+-- two tasks with a request open in the same group are one task, the group's holder
 abbrev pub OneHolder : State → Type 0
 OneHolder s = (t u i k : ℕ) → i < depth s t → k < depth s u
     → groupOf (s .setup) (request s t i) ≡ groupOf (s .setup) (request s u k)
     → (t ≡ u) × (holder s (groupOf (s .setup) (request s t i)) ≡ t)
 
 -- ---- chains of who waits for whom
+-- t's job spins or is suspended
 abbrev pub Waiting : State → ℕ → Type 0
 Waiting s t = spinning ≤ stand s t
 
+-- t waits for a group that u holds
 abbrev pub WaitsFor : State → ℕ → ℕ → Type 0
 WaitsFor s t u = Waiting s t × (u ≢ nobody) × (holder s (groupOf (s .setup) (asked s t)) ≡ u)
 
--- who waits, waits for its group's holder and no other; a chain has at most two links and ends in a job that is active
+-- a waiting job waits for its group's holder and for no other; a chain has at most two links and ends in an active
+-- job
 pub record ChainsEnd (s : State) : Type 0 where
   pub one : (t : ℕ) → Waiting s t → (u : ℕ) × WaitsFor s t u × ((v : ℕ) → WaitsFor s t v → v ≡ u)
   pub two : (t u : ℕ) → WaitsFor s t u → (stand s u ≡ active) ⊎ ((v : ℕ) × WaitsFor s u v × (stand s v ≡ active))
 
 -- ---- short queues
--- n jobs are before t at group g, the holder among them
+-- n jobs are before t at group g, the holder among them; with 0, t is the holder
 abbrev pub Before : State → ℕ → ℕ → ℕ → Type 0
 Before s g t zero = holder s g ≡ t
 Before s g t (suc n) = (n < len s g) × (waiter s g n ≡ t)
 
--- and no other number: a job has one place at a short group
+-- a job has only one place at a short group
 abbrev pub OnePlace : State → Type 0
 OnePlace s = (g t n k : ℕ) → kind (s .setup) g ≡ short → t ≢ nobody → Before s g t n → Before s g t k → n ≡ k
 
@@ -106,15 +112,15 @@ handsOver s e g =
     accepts s e completion && groupOf (s .setup) (e .resource) is g
     && not (openOfKind (s .setup) (closes (e .task) s) (e .task) (e .resource))
 
--- how many of the events do so
+-- how many of the events complete an outermost request at g
 unfoldable pub completions : State → List Move → ℕ → ℕ
 completions s [] g = 0
 completions s (m ∷ ms) g = (if handsOver s (m .event) g then 1 else 0) + completions (moved s m) ms g
 
--- e asks, in s, for a short resource while no short request is open, and is accepted: it finds `found` jobs before
--- it, fewer than m; and after any further events, as many completions of outermost requests there as there were leave
--- n of the `found` before it: it holds where n is 0, so after exactly `found` completions, and until then waits for
--- what it asked
+-- e is an accepted request, in s, for a short resource by a job with no short request open. It finds `found` jobs
+-- before it, fewer than m. After any further events n of them are left, where `found` - n outermost requests were
+-- completed there: so the job holds the group after exactly `found` completions, and spins for what it asked for
+-- until then.
 pub record ShortQueue (s : State) (pick : Prefers) (e : Event) (m : ℕ) : Type 0 where
   pub found : ℕ
   pub few : found < m
@@ -124,12 +130,13 @@ pub record ShortQueue (s : State) (pick : Prefers) (e : Event) (m : ℕ) : Type 
       Before end (groupOf (s .setup) (e .resource)) (e .task) n
       × (n ≢ 0 → (stand end (e .task) ≡ spinning) × (asked end (e .task) ≡ e .resource))
 
--- of every request, accepted in s, for a short resource by a job with no short request open
+-- that holds of every request, accepted in s, for a short resource by a job with no short request open
 abbrev pub ShortQueues : State → ℕ → Type 0
 ShortQueues s m = (pick : Prefers) (e : Event) → judge s e ≡ 0 → e .kind ≡ asking
     → kind (s .setup) (e .resource) ≡ short → shortOpen (s .setup) s (e .task) ≡ false → ShortQueue s pick e m
 
--- ---- demand 3, of the state after some events
+-- ---- demand 3
+-- all of it, for the state after some events
 pub record Demand3 (c : Setup) (ms : List Move) : Type 0 where
   pub links : LinksHighest (after c ms) (c .processors)
   pub apart : PrioritiesApart (after c ms)
@@ -138,8 +145,9 @@ pub record Demand3 (c : Setup) (ms : List Move) : Type 0 where
   pub places : OnePlace (after c ms)
   pub queues : ShortQueues (after c ms) (c .processors)
 
--- ---- totals the ticks that t has been pending, from its accepted arrivals and finishes and their clocks: since the
--- clock `since`, if it is pending at the start
+-- ---- totals
+-- the ticks that t has been pending, from the clocks of its accepted arrivals and finishes; if it is `pending` in s,
+-- then from the clock `since` on
 unfoldable pub pendingTicks : State → List Move → ℕ → Bool → ℕ → ℕ
 pendingTicks s [] t pending since = if pending then s .clock - since else 0
 pendingTicks s (m ∷ ms) t pending since =
@@ -149,11 +157,11 @@ pendingTicks s (m ∷ ms) t pending since =
     else if accepts s e finish && e .task is t then (next .clock - since) + pendingTicks next ms t false 0
     else pendingTicks next ms t pending since
 
--- the five totals sum to them; nobody is pending at the start
+-- the five totals of a task sum to the ticks that it has been pending; no task is pending at the start
 abbrev pub TotalsSum : Setup → List Move → Type 0
 TotalsSum c ms = (t : ℕ) → sum (task (after c ms) t .totals) ≡ pendingTicks (begin c .state) ms t false 0
 
--- an accepted step's ticks go, for a pending task, to the one total of its situation before the event; else nowhere
+-- the ticks of an accepted step go, for a pending task, to the total of its situation before the event; else nowhere
 abbrev pub Charges : State → Prefers → Event → ℕ → Type 0
 Charges s pick e t =
     let before = task s t .totals in
@@ -161,33 +169,39 @@ Charges s pick e t =
     task (stepBy pick s e .state) t .totals
     ≡ (if stand s t isn't absent then set before i (getD before i 0 + stepOf s e) else before)
 
--- ---- the theorems: each of the above, of every run from an accepted set-up
+-- ---- the theorems
+-- P holds of every run from an accepted set-up
 abbrev pub Always : (Setup → List Move → Type 0) → Type 0
 Always P = (c : Setup) → Given c → (ms : List Move) → P c ms
 
+-- the state is sound
 abbrev pub AlwaysSound : Type 0
 AlwaysSound = Always (λ c ms. sound (after c ms) ≡ true)
 
+-- demand 3 holds
 abbrev pub AlwaysDemand3 : Type 0
 AlwaysDemand3 = Always Demand3
 
+-- each accepted event charges its ticks
 abbrev pub AlwaysCharges : Type 0
 AlwaysCharges = Always (λ c ms. (pick : Prefers) (e : Event) (t : ℕ) → judge (after c ms) e ≡ 0 → t < mostTasks
     → Charges (after c ms) pick e t)
 
+-- the totals sum to the ticks pending
 abbrev pub AlwaysSums : Type 0
 AlwaysSums = Always TotalsSum
 
--- a refused event can be left out
+-- a refused event can be left out of a run
 abbrev pub RefusedLeftOut : Type 0
 RefusedLeftOut = Always (λ c ms. (m : Move) (ns : List Move) → judge (after c ms) (m .event) ≢ 0
     → after c (ms ++ m ∷ ns) ≡ after c (ms ++ ns))
 
--- ---- a refused event hands back the very state, whatever is suggested; and a refused set-up an empty one: no
--- processors, no task, no lock, clock 0
+-- ---- refusals
+-- a refused event hands back the very state, whatever is suggested
 abbrev pub RefusedKeeps : Type 0
 RefusedKeeps = (pick : Prefers) (s : State) (e : Event) → stepBy pick s e .answer ≢ 0 → stepBy pick s e .state ≡ s
 
+-- the empty state: no processors, no tasks, no locks, clock 0
 pub record IsEmpty (s : State) : Type 0 where
   pub processors : (s .setup .processors ≡ 0) × (s .processors .count ≡ 0)
   pub counts : (s .setup .tasks ≡ 0) × (s .setup .resources ≡ 0) × (s .setup .pairs ≡ 0)
@@ -197,5 +211,6 @@ pub record IsEmpty (s : State) : Type 0 where
   pub tasks : (t : ℕ) → task s t ≡ noTask
   pub groups : (g : ℕ) → group s g ≡ noGroup
 
+-- a refused set-up hands back its number and the empty state
 abbrev pub RefusedIsEmpty : Type 0
 RefusedIsEmpty = (c : Setup) → setupRefusal c ≢ 0 → (begin c .answer ≡ setupRefusal c) × IsEmpty (begin c .state)

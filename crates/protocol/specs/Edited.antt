@@ -1,5 +1,5 @@
 -- What an accepted event does to tasks and groups, whatever the scheduler does: its edits without the scheduler's
--- moves. The law `step-does` in proofs/Edited ties it to the rules of 'Events'. c is the set-up of s.
+-- moves. The law `step-does` in proofs/Events/Edited ties it to the rules in specs/Events. c is the set-up of s.
 use Prim.Native.Nat.{ℕ}
 use mathlib.Core.Bool.{_||_}
 use Rattle.search.specs.Words.{if_then_else_, _is_}
@@ -12,13 +12,14 @@ use Rattle.protocol.specs.Words.{holder, len}
 use Rattle.protocol.specs.Locks.{openOfKind, opens, enqueues, closes, frees, passes, arriveEdit, finishEdit}
 use Rattle.protocol.specs.declared.State.{State}
 
--- a request is open at once, or joins the queue
+-- t requests r: the request is open at once, or t is enqueued
 unfoldable pub requestEdit : Setup → ℕ → ℕ → State → State
 requestEdit c t r s =
     let g = groupOf c r in
     if openOfKind c s t r || holder s g is nobody then opens t r g s else enqueues c t r g s
 
--- a completed request is closed; outermost, the group is free, or its next becomes holder
+-- t completes r: the request is closed; if it was outermost, the group is free, or the queue's first job becomes
+-- holder
 unfoldable pub completeEdit : Setup → ℕ → ℕ → State → State
 completeEdit c t r s =
     let g = groupOf c r in
@@ -27,6 +28,7 @@ completeEdit c t r s =
     else if len s g is 0 then frees g closed
     else passes g (frees g closed)
 
+-- what e does
 unfoldable pub edited : Setup → Event → State → State
 edited c e s =
     if e .kind is arrival then arriveEdit c (e .task) s

@@ -1,4 +1,4 @@
--- Document 01, 'Events' and 'Tick totals': what an accepted event does. c is the set-up of s.
+-- RULES.md, 'What each event does' and 'Tick totals': what an accepted event does. c is the set-up of s.
 use Prim.Native.Nat.{ℕ, _+_}
 use mathlib.Core.Bool.{_||_}
 use mathlib.Core.List.{List, [], _∷_, map}
@@ -42,11 +42,12 @@ module _ (c : Setup) (t : ℕ) (s : State) where
 
 -- ---- finish and request
 module _ (c : Setup) (t : ℕ) where
+  -- Finish: the job is gone, then it leaves.
   unfoldable pub finishEvent : State → State
   finishEvent s = leaves c t (finishEdit t s)
 
-  -- Request. Same kind open, or the group free: granted at once. Otherwise a short request spins at the queue's end,
-  -- and a long one joins the queue, which raises the holder's priority, then suspends.
+  -- Request. Same kind open, or the group free: granted at once. Otherwise the job is enqueued at the end: a short
+  -- request spins; a long one suspends, once its waiting counts for the holder's priority.
   unfoldable pub requestEvent : ℕ → State → State
   requestEvent r s =
       let g = groupOf c r in
@@ -54,23 +55,24 @@ module _ (c : Setup) (t : ℕ) where
       else if kind c r is short then enqueues c t r g s
       else leaves c t (enqueues c t r g s)
 
--- ---- tick totals: each pending task's ticks go to the total of its situation before the event
+-- ---- tick totals
 -- n ticks more in total i
 abbrev pub counting : ℕ → ℕ → Task → Task
 counting i n t = withTotals (set (t .totals) i (getD (t .totals) i 0 + n)) t
 
--- and the clock goes on by as many
+-- the clock moves forward by n ticks, and each pending task has them charged to the total of its situation
 unfoldable pub charged : ℕ → State → State
 charged n s =
     withClock (s .clock + n) (withTasks (table
     (λ t. if stand s t isn't absent then counting (totalOf (situation s t)) n (task s t) else task s t)
     mostTasks) s)
 
--- ---- who arrives or resumes, and a whole step
--- a processor suggested to a task in a state; document 01 suggests none, and the lowest-numbered unlinked one is taken
+-- ---- arrive or resume, and a whole step
+-- the processor suggested to a task in a state
 abbrev pub Prefers : Type 0
 Prefers = State → ℕ → ℕ
 
+-- no processor is suggested, as in the rules: the lowest-numbered unlinked one is taken
 abbrev pub cold : Prefers
 cold s t = nobody
 
@@ -79,12 +81,13 @@ module _ (pick : Prefers) where
   unfoldable pub arrives : Setup → ℕ → State → State
   arrives c t s = withProcessors (linking (s .processors) (jobs c s) t (pick s t)) s
 
+  -- Arrival: the job is active, with its deadline; then it arrives.
   unfoldable pub arriveEvent : Setup → ℕ → State → State
   arriveEvent c t s = arrives c t (arriveEdit c t s)
 
-  -- Completion. Inner: the request is closed, no more. Outermost short: the queue's first job becomes holder, then the
-  -- completer becomes preemptable. Outermost long: the completer's priority is restored, as the group is free, and it
-  -- gives way; then the queue's first job becomes holder and resumes.
+  -- Completion. Inner: the request is closed, no more. Outermost short: the queue's first job becomes holder, then
+  -- the completer becomes preemptable. Outermost long: the completer's priority is restored, as the group is free,
+  -- and it gives way; then the queue's first job becomes holder and resumes.
   unfoldable pub completeEvent : Setup → ℕ → ℕ → State → State
   completeEvent c t r s =
       let g = groupOf c r in
@@ -104,35 +107,40 @@ module _ (pick : Prefers) where
       else if e .kind is completion then completeEvent c (e .task) (e .resource) s
       else s
 
-  -- A refused event hands back the same state.
+  -- The answer to an event, and the state after it. A refused event hands back the same state.
   unfoldable pub stepBy : State → Event → Reply
   stepBy s e =
       if judge s e is 0 then record { answer = 0; state = act (s .setup) e (charged (stepOf s e) s) }
       else record { answer = judge s e; state = s }
 
--- the rule of document 01
+-- the step of the rules: no processor is suggested
 unfoldable pub step : State → Event → Reply
 step s e = stepBy cold s e
 
--- ---- lists of events, and of moves: events, each with what is suggested there; the state after them
+-- ---- lists of events, and of moves
+-- an event, and the suggestion that goes with it
 pub record Move : Type 0 where
   pub prefers : Prefers
   pub event : Event
 
+-- the state after a move
 abbrev pub moved : State → Move → State
 moved s m = stepBy (m .prefers) s (m .event) .state
 
+-- the state after some moves
 unfoldable pub runBy : State → List Move → State
 runBy s [] = s
 runBy s (m ∷ ms) = runBy (moved s m) ms
 
+-- events as moves without suggestions
 abbrev pub plain : List Event → List Move
 plain es = map (λ e. record { prefers = cold; event = e }) es
 
+-- the state after some events
 unfoldable pub run : State → List Event → State
 run s es = runBy s (plain es)
 
--- ---- what a set-up gives
+-- ---- the state that a set-up begins with
 -- nobody has arrived
 unfoldable pub fresh : Setup → State
 fresh c = record {
@@ -143,15 +151,17 @@ fresh c = record {
   processors = noneLinked (c .processors);
 }
 
--- a refused set-up gives an empty state
+-- the answer to a set-up, and the state that it begins with; a refused one gives the empty state
 unfoldable pub begin : Setup → Reply
 begin c =
     if setupRefusal c is 0 then record { answer = 0; state = fresh (cleared c) }
     else record { answer = setupRefusal c; state = fresh noSetup }
 
--- ---- from a set-up on: the state after some moves; of events alone, the answer to the n-th, after those before it
+-- ---- from a set-up on
+-- the state after some moves
 abbrev pub after : Setup → List Move → State
 after c ms = runBy (begin c .state) ms
 
+-- the answer to event n of a list, after those before it
 abbrev pub replyAt : State → List Event → ℕ → Reply
 replyAt s es n = step (run s (take n es)) (getD es n noEvent)

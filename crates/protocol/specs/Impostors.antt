@@ -1,5 +1,5 @@
--- Document 01, 'How tight the statements are': four impostors, each of which differs from `step` at the step of the
--- printed case that is named there. An impostor is told the state and the event, and what it answered first.
+-- RULES.md, 'The worked cases': four impostors. Each differs from `step` at a step of the printed case. An impostor
+-- is given the state and the event, and its own first reply.
 use Prim.Native.Nat.{ℕ}
 use mathlib.Core.Path.{ap}
 use mathlib.Core.Logic.{_≢_}
@@ -27,6 +27,7 @@ repeating earlier s e = earlier
 abbrev pub claiming : Reply → State → Event → Reply
 claiming earlier s e = record { answer = step s e .answer; state = earlier .state }
 
+-- the task that processor k runs
 abbrev on : ℕ → Reply → ℕ
 on k r = runs (r .state .processors) k
 
@@ -34,6 +35,7 @@ on k r = runs (r .state .processors) k
 pub refusing-differs : (n : ℕ) → n ≢ 0 → refusing n reply₁ opening event₁ ≢ reply₁
 refusing-differs n d e = d (omega (arith, differences .0, ap (λ (r : Reply). r .answer) e))
 
+-- at step 1
 pub idling-differs : idling reply₁ opening event₁ ≢ reply₁
 idling-differs e = omega (arith, differences .1, differences .2, ap (on 0) e)
 
@@ -41,5 +43,6 @@ idling-differs e = omega (arith, differences .1, differences .2, ap (on 0) e)
 pub repeating-differs : repeating reply₁ (reply₁ .state) event₂ ≢ reply₂
 repeating-differs e = omega (arith, differences .3, differences .4, ap (on 1) e)
 
+-- at step 2
 pub claiming-differs : claiming reply₁ (reply₁ .state) event₂ ≢ reply₂
 claiming-differs e = omega (arith, differences .3, differences .4, ap (on 1) e)

@@ -18,7 +18,7 @@ use Rattle.protocol.specs.declared.Task.{Task}
 use Rattle.protocol.specs.declared.State.{State}
 
 -- ---- a task's record as one edit leaves it
--- one request more is open
+-- a request for r is open, as the newest
 abbrev pub opening : ℕ → Task → Task
 opening r t = withRequests (set (t .requests) (t .depth) r) (withDepth (t .depth + 1) t)
 
@@ -26,18 +26,20 @@ opening r t = withRequests (set (t .requests) (t .depth) r) (withDepth (t .depth
 abbrev pub closing : Task → Task
 closing t = withRequests (set (t .requests) (t .depth - 1) nothing) (withDepth (t .depth - 1) t)
 
--- a job arrives at the clock `now`, with a deadline
+-- a job arrives at the clock `now`, with the deadline `due`
 abbrev pub arriving : ℕ → ℕ → Task → Task
 arriving now due t = withStanding Active (withDeadline due (withArrived true (withLast now t)))
 
--- the job is gone, with its deadline
+-- the job is gone, and its deadline is 0
 abbrev pub departing : Task → Task
 departing t = withStanding Absent (withDeadline 0 t)
 
--- ---- a state with one task changed, and with one group
+-- ---- a state with one task or one group changed
+-- the state with the record of t changed by f
 abbrev pub onTask : ℕ → (Task → Task) → State → State
 onTask t f s = withTasks (set (s .tasks) t (f (task s t))) s
 
+-- the state with h as the holder of g, and q as its queue
 abbrev pub withGroup : ℕ → ℕ → Queue → State → State
 withGroup g h q s = withGroups (set (s .groups) g (record { holder = h; queue = q })) s
 
@@ -54,7 +56,7 @@ openOfKind c s t r = anyBelow (depth s t) (λ i. kind c (request s t i) is kind 
 unfoldable pub opens : ℕ → ℕ → ℕ → State → State
 opens t r g s = withGroup g t (group s g .queue) (onTask t (opening r) s)
 
--- t waits for r, at the end of g's queue
+-- t is enqueued at the end of g's queue, and waits for r
 unfoldable pub enqueues : Setup → ℕ → ℕ → ℕ → State → State
 enqueues c t r g s =
     withGroup g (group s g .holder) (appended (group s g .queue) t)
@@ -68,23 +70,23 @@ closes t s = onTask t closing s
 unfoldable pub frees : ℕ → State → State
 frees g s = withGroup g nobody (group s g .queue) s
 
--- the next of a group: the queue's first job
+-- the first job in g's queue
 abbrev pub nextAt : State → ℕ → ℕ
 nextAt s g = waiter s g 0
 
--- the next of g waits no more
+-- the first job in g's queue is dequeued and active
 unfoldable pub dequeues : ℕ → State → State
 dequeues g s =
     withGroup g (group s g .holder) (withoutFirst (group s g .queue)) (onTask (nextAt s g) (withStanding Active) s)
 
--- the next of g becomes holder, and what it asked for is open
+-- the first job in g's queue becomes holder, and what it asked for is open
 unfoldable pub passes : ℕ → State → State
 passes g s = opens (nextAt s g) (asked s (nextAt s g)) g (dequeues g s)
 
--- a job arrives
+-- a job of t arrives, with its deadline set
 abbrev pub arriveEdit : Setup → ℕ → State → State
 arriveEdit c t s = onTask t (arriving (s .clock) (dueAt c t (s .clock))) s
 
--- a job is gone
+-- the job of t is gone
 abbrev pub finishEdit : ℕ → State → State
 finishEdit t s = onTask t departing s

@@ -1,5 +1,5 @@
--- Document 01, 'Numbers handed back': each number of an event is given exactly when its row is the first that
--- applies, and 0 when none does.
+-- RULES.md, 'Numbers handed back': each number of an event is given exactly when its row is the first that applies,
+-- and 0 when none does.
 use mathlib.Core.Path.{_≡_}
 use mathlib.Core.Logic.{_↔_}
 use Rattle.numbers.specs.Refusals.{notSound, eventUnknown, taskUnknown, resourceUnknown, fieldUnused, stepBackward, clockPastEnd, alreadyPending, arrivesEarly, notPending, onNoProcessor, isSpinning, finishesOpen, alreadyOpen, wronglyNested, tooManyOpen, notNewest}

@@ -1,5 +1,5 @@
--- Document 01, 'Events': priorities, and what the scheduler is told of each job. A lower rank is a higher priority.
--- Here and below c is the set-up of the state s.
+-- RULES.md, 'Jobs and priorities': priorities, and what the scheduler is given of each job. A lower rank is a higher
+-- priority. c is the set-up of the state s.
 use Prim.Native.Nat.{ℕ, zero, suc, _+_, _*_, min}
 use mathlib.Core.Bool.{Bool, true, false, _&&_}
 use Rattle.search.specs.Words.{_is_}
@@ -19,7 +19,7 @@ use Rattle.protocol.specs.declared.Standing.{Standing}
 use Rattle.protocol.specs.declared.Standing.the-variants.{Absent, Active, Waiting}
 use Rattle.protocol.specs.declared.State.{State}
 
--- Own priority: earlier deadline is higher, then lower task number, which is below 256.
+-- Own priority: an earlier deadline is higher, then a lower task number, which is below 256.
 unfoldable pub own : State → ℕ → ℕ
 own s t = deadline s t * 256 + t
 
@@ -28,7 +28,8 @@ unfoldable pub leastOf : (ℕ → ℕ) → ℕ → ℕ → ℕ
 leastOf f zero a = a
 leastOf f (suc n) a = min (f n) (leastOf f n a)
 
--- suspended on a long group, preemptable, or non-preemptable as holder or spinner of a short group
+-- not runnable without a job or suspended; non-preemptable while it spins or has a short request open (`holds`); else
+-- preemptable
 abbrev pub modeFor : Standing → Bool → ℕ
 modeFor Absent holds = off
 modeFor Active true = nonPreemptable
@@ -37,11 +38,12 @@ modeFor (Waiting (Short r)) holds = nonPreemptable
 modeFor (Waiting (Long r)) holds = off
 
 module _ (c : Setup) (s : State) where
-  -- the long group that t holds, or the number past the last resource
+  -- the long group that t holds; the number of resources where it holds none
   unfoldable pub longHeld : ℕ → ℕ
   longHeld t = first (λ g. kind c g is long && holder s g is t) 0 (c .resources)
 
-  -- Effective priority: for the holder of a long group the highest among its own and those of the jobs queued there.
+  -- Effective priority: for the holder of a long group the highest among its own and those of the jobs queued there;
+  -- for all others their own, as the place past the last group has an empty queue in a sound state.
   unfoldable pub effective : ℕ → ℕ
   effective t = leastOf (λ i. own s (waiter s (longHeld t) i)) (len s (longHeld t)) (own s t)
 
@@ -49,5 +51,6 @@ module _ (c : Setup) (s : State) where
   unfoldable pub shortOpen : ℕ → Bool
   shortOpen t = anyBelow (depth s t) (λ i. kind c (request s t i) is short)
 
+  -- what the scheduler is given: each task's effective rank and mode
   unfoldable pub jobs : Jobs
   jobs = jobsFrom (table effective mostTasks) (table (λ t. modeFor (task s t .standing) (shortOpen t)) mostTasks)

@@ -19,6 +19,7 @@ abbrev pub totalCount : ℕ
 totalCount = 5
 
 -- ---- the empty records
+-- no task: no job, no request open, totals 0
 abbrev pub noTask : Task
 noTask = record {
   standing = Absent;
@@ -30,6 +31,7 @@ noTask = record {
   totals = replicate totalCount 0;
 }
 
+-- no group: no holder, and an empty queue
 abbrev pub noGroup : Group
 noGroup = record { holder = nobody; queue = empty }
 

@@ -1,4 +1,4 @@
--- Document 01, 'The clock' and 'Numbers handed back': the clock step, and the refusals 9 to 25 in the list's order.
+-- RULES.md, 'The clock' and 'Numbers handed back': the clock step, and the refusals 9 to 25 in the list's order.
 use Prim.Native.Nat.{ℕ, _+_, _-_, _%_}
 use mathlib.Core.Bool.{Bool, not, _&&_, _||_}
 use mathlib.Core.List.{List, [], _++_}
@@ -18,29 +18,30 @@ use Rattle.protocol.specs.Situations.{situation, situationRefusal}
 use Rattle.protocol.specs.Sound.{sound}
 use Rattle.protocol.specs.declared.State.{State}
 
--- the console's tick runs from 65,535 to 0
+-- how many values the console's tick has: after 65,535 comes 0
 abbrev pub ticks : ℕ
 ticks = 65536
 
--- from a clock to the console's tick: the new tick minus the last accepted one, modulo 65,536
+-- the step from a clock to a tick of the console: the tick minus the last accepted one, modulo 65,536
 abbrev pub ticksTo : ℕ → ℕ → ℕ
 ticksTo clock tick = (tick + ticks - clock % ticks) % ticks
 
--- the step of an event, and the exact clock after it
+-- the step of an event
 abbrev pub stepOf : State → Event → ℕ
 stepOf s e = ticksTo (s .clock) (e .tick)
 
+-- the exact clock after an event
 abbrev pub clockAfter : State → Event → ℕ
 clockAfter s e = s .clock + stepOf s e
 
 module _ (c : Setup) (s : State) (t r : ℕ) where
-  -- long while a short is open, or same kind open in another group
+  -- t may not request r: it is long while a short is open, or the same kind is open in another group
   unfoldable pub misplaced : Bool
   misplaced = anyBelow (depth s t) (λ i.
       (kind c r is long && kind c (request s t i) is short)
       || (kind c (request s t i) is kind c r && groupOf c (request s t i) isn't groupOf c r))
 
--- the refusals of an event by its fields alone, among so many tasks and resources
+-- the refusals 10 to 13, by the fields of an event and the counts of tasks and resources alone
 abbrev pub fieldRows : ℕ → ℕ → Event → List Row
 fieldRows tasks resources e =
     let uses = fieldsOf (e .kind) in
@@ -50,6 +51,7 @@ fieldRows tasks resources e =
     fieldUnused when (not (uses .task) && e .task isn't 0) || (not (uses .resource) && e .resource isn't 0) otherwise
     []
 
+-- the list of 9 to 25
 unfoldable pub eventRows : State → Event → List Row
 eventRows s e =
     let c = s .setup in

@@ -1,4 +1,4 @@
--- Document 01, 'Tick totals': the situation of a task, the total that it is charged to, and what it hinders.
+-- RULES.md, 'Tick totals': the situation of a task, the total that it is charged to, and the refusal that it gives.
 use Prim.Native.Nat.{ℕ}
 use lib.Dec.{ltb}
 use Rattle.search.specs.Words.{if_then_else_, _is_}
@@ -12,8 +12,8 @@ use Rattle.protocol.specs.declared.Situation.{Situation}
 use Rattle.protocol.specs.declared.Situation.the-variants.{NoJob, Running, Spinning, LinkedOnly, Ready, Suspended}
 use Rattle.protocol.specs.declared.State.{State}
 
--- of task t with a standing, as a number, among the processors: a job on a processor is spinning or running, linked
--- or not
+-- the situation of task t, by its standing's number and the processors: a job on a processor is spinning or running,
+-- linked or not
 abbrev pub situationOf : ℕ → Processors → ℕ → Situation
 situationOf standing p t =
     if standing is absent then NoJob
@@ -22,10 +22,11 @@ situationOf standing p t =
     else if ltb (linkOf p t) mostProcessors then LinkedOnly
     else Ready
 
+-- the situation of task t in s
 unfoldable pub situation : State → ℕ → Situation
 situation s t = situationOf (stand s t) (s .processors) t
 
--- suspended ticks are reported as direct blocking
+-- the total of suspended ticks, which are reported as direct blocking
 abbrev pub directBlocking : ℕ
 directBlocking = 4
 
@@ -38,7 +39,7 @@ totalOf Ready = 3
 totalOf Suspended = directBlocking
 totalOf NoJob = totalCount
 
--- the refusals 18 to 20: no pending job, the job on no processor, the job spinning
+-- the refusal of a finish, request or completion in a situation, 18 to 20, or 0
 abbrev pub situationRefusal : Situation → ℕ
 situationRefusal NoJob = notPending
 situationRefusal LinkedOnly = onNoProcessor

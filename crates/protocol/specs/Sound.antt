@@ -1,4 +1,4 @@
--- Document 01, 'A sound state', clause by clause in its order, as a test of any state.
+-- RULES.md, 'The sound state', clause by clause in its order, as a test of any state.
 use Prim.Native.Nat.{ℕ, _+_, _-_}
 use mathlib.Core.Bool.{Bool, not, _&&_}
 use lib.Dec.{leb, ltb}
@@ -19,12 +19,12 @@ use Rattle.protocol.specs.Ranks.{jobs}
 use Rattle.protocol.specs.declared.State.{State}
 
 module _ (c : Setup) (s : State) where
-  -- start at most the clock, and the clock within its end
+  -- the start is at most the clock, and the clock at most its end
   unfoldable pub clockSound : Bool
   clockSound = leb (c .start) (s .clock) && leb (s .clock) lastClock
 
-  -- last arrivals, where there are any, between them; a pending job's deadline is its last arrival plus its period,
-  -- and without a job there is none; the totals sum to at most clock minus start
+  -- the last arrival, where there was one, is between start and clock; a pending job has arrived, and its deadline is
+  -- its last arrival plus its period; without a job the deadline is 0; the totals sum to at most clock minus start
   unfoldable pub timesSound : ℕ → Bool
   timesSound t =
       (task s t .arrived implies (leb (c .start) (task s t .last) && leb (task s t .last) (s .clock)))
@@ -32,15 +32,16 @@ module _ (c : Setup) (s : State) where
       && (stand s t is absent implies deadline s t is 0)
       && leb (sum (task s t .totals)) (s .clock - c .start)
 
-  -- the kind and the group of the i-th open request of t
+  -- the kind of the i-th open request of t
   abbrev requestKind : ℕ → ℕ → ℕ
   requestKind t i = kind c (request s t i)
 
+  -- the group of the i-th open request of t
   abbrev requestGroup : ℕ → ℕ → ℕ
   requestGroup t i = groupOf c (request s t i)
 
-  -- open requests are at most eight, distinct, longs before shorts, each kind within one group of which the job is
-  -- holder; only a pending job has some
+  -- the open requests are at most eight; each is of a resource in the table, whose group t holds; they are distinct,
+  -- longs before shorts, those of one kind in one group; there is none without a job
   unfoldable pub requestsSound : ℕ → Bool
   requestsSound t =
       leb (depth s t) mostRequests
@@ -51,8 +52,8 @@ module _ (c : Setup) (s : State) where
       requestKind t i is requestKind t k implies requestGroup t i is requestGroup t k))
       && (stand s t is absent implies depth s t is 0)
 
-  -- a waiting job is in the queue of what it asked, which it could have asked by 22 to 24; it has nothing open of the
-  -- kind it asked for, and one suspended holds nothing
+  -- a waiting job asked for a resource in the table, of the kind that it waits by, and is in the queue of its group;
+  -- nothing of that kind is open, and nothing at all if it is suspended; fewer than eight requests are open
   unfoldable pub waitingSound : ℕ → Bool
   waitingSound t =
       leb spinning (stand s t) implies (
@@ -63,8 +64,8 @@ module _ (c : Setup) (s : State) where
       && (stand s t is suspended implies depth s t is 0)
       && ltb (depth s t) mostRequests)
 
-  -- groups have no other holder; queues hold waiting jobs only, who asked there, each once; only held groups have
-  -- queues
+  -- the holder, if any, has a request open in the group; the queue is tidy; each queued job waits for a resource of
+  -- this group, and is queued once; without a holder the queue is empty
   unfoldable pub groupSound : ℕ → Bool
   groupSound g =
       (holder s g isn't nobody implies anyBelow (depth s (holder s g)) (λ i. requestGroup (holder s g) i is g))
@@ -77,12 +78,13 @@ module _ (c : Setup) (s : State) where
   abbrev isUnused : ℕ → Bool
   isUnused t = stand s t is absent && not (task s t .arrived) && task s t .last is 0 && sum (task s t .totals) is 0
 
-  -- places beyond the counts are empty
+  -- places past the counts are empty: a task's requests past its depth, and a task past the count
   unfoldable pub emptySound : ℕ → Bool
   emptySound t =
       allBelow mostRequests (λ i. leb (depth s t) i implies request s t i is nothing)
       && (leb (c .tasks) t implies isUnused t)
 
+-- every clause holds
 unfoldable pub sound : State → Bool
 sound s =
     let c = s .setup in

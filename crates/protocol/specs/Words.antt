@@ -16,23 +16,29 @@ use Rattle.protocol.specs.declared.State.{State}
 abbrev pub lastClock : ℕ
 lastClock = 4294967295
 
+-- the sum of a list
 abbrev pub sum : List ℕ → ℕ
 sum [] = 0
 sum (x ∷ xs) = x + sum xs
 
--- ---- a standing as a number: no job, active, spinning on a short group, suspended on a long one
+-- ---- a standing as a number
+-- no job
 abbrev pub absent : ℕ
 absent = 0
 
+-- a job that does not wait
 abbrev pub active : ℕ
 active = 1
 
+-- a job that waits for a short group
 abbrev pub spinning : ℕ
 spinning = 2
 
+-- a job that waits for a long group
 abbrev pub suspended : ℕ
 suspended = 3
 
+-- the number of a standing
 abbrev pub standingNo : Standing → ℕ
 standingNo Absent = absent
 standingNo Active = active
@@ -47,34 +53,42 @@ askedOf (Waiting (Short r)) = r
 askedOf (Waiting (Long r)) = r
 
 -- ---- the parts of a state
+-- the record of task t; past the table, that of no task
 abbrev pub task : State → ℕ → Task
 task s t = getD (s .tasks) t noTask
 
+-- the record of group g; past the table, that of no group
 abbrev pub group : State → ℕ → Group
 group s g = getD (s .groups) g noGroup
 
+-- the number of t's standing
 unfoldable pub stand : State → ℕ → ℕ
 stand s t = standingNo (task s t .standing)
 
+-- the resource that t's waiting job asked for, or nothing
 unfoldable pub asked : State → ℕ → ℕ
 asked s t = askedOf (task s t .standing)
 
+-- the deadline of t's job
 unfoldable pub deadline : State → ℕ → ℕ
 deadline s t = task s t .deadline
 
--- how many requests t has open, and which, oldest first
+-- how many requests t has open
 unfoldable pub depth : State → ℕ → ℕ
 depth s t = task s t .depth
 
+-- the resource of the i-th open request of t, oldest first
 unfoldable pub request : State → ℕ → ℕ → ℕ
 request s t i = getD (task s t .requests) i nothing
 
--- the holder of group g, how many wait there, and who, first come first
+-- the holder of group g, or nobody
 unfoldable pub holder : State → ℕ → ℕ
 holder s g = group s g .holder
 
+-- how many wait for group g
 unfoldable pub len : State → ℕ → ℕ
 len s g = group s g .queue .len
 
+-- the task at place i of g's queue, or nobody
 unfoldable pub waiter : State → ℕ → ℕ → ℕ
 waiter s g i = queued (group s g .queue) i

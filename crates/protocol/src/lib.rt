@@ -4,13 +4,13 @@ use numbers::Limit;
 use processors::Processors;
 use queue::Queue;
 
-// A lock's kind, with the resource asked for.
+// What a waiting job waits for: a lock, by its kind, with the resource asked for.
 pub enum Lock {
     Short(u8),
     Long(u8),
 }
 
-// A task has no job, one that goes its way, or one that waits.
+// A task has no job, an active one, or one that waits.
 pub enum Standing {
     Absent,
     Active,
@@ -27,8 +27,8 @@ pub enum Situation {
     Suspended,
 }
 
-// `last` is the clock of the last arrival, if the task has `arrived` at all. The open requests are the
-// first `depth`, oldest first.
+// A task's record. `last` is the clock of the last arrival, if the task has `arrived` at all. The open requests are
+// the first `depth`, oldest first.
 pub struct Task {
     pub standing: Standing,
     pub deadline: u64,
@@ -42,7 +42,7 @@ pub struct Task {
 impl Task {
     // How many requests a job may have open.
     pub const REQUESTS: usize = Limit::REQUESTS;
-    // Running, spinning, linked but not running, ready, suspended.
+    // How many totals there are: running, spinning, linked but not running, ready, suspended.
     pub const TOTALS: usize = 5;
     // The numbers of the standings: no job, active, spinning on a short group, suspended on a long one.
     pub const ABSENT: u8 = 0;
@@ -54,12 +54,13 @@ impl Task {
     pub const SUSPENDED: u8 = 3;
 }
 
-// A group's place is that of its lowest resource.
+// A lock's record. It is at the place of the group's lowest resource.
 pub struct Group {
     pub holder: u8,
     pub queue: Queue,
 }
 
+// The state of a session, with the exact clock.
 pub struct State {
     pub setup: Setup,
     pub clock: u32,
@@ -68,14 +69,14 @@ pub struct State {
     pub processors: Processors,
 }
 
-// A number handed back, and the state after.
+// The answer to a set-up or an event, and the state after it.
 pub struct Reply {
     pub answer: u8,
     pub state: State,
 }
 
 impl Reply {
-    // The bytes of a snapshot, which is what is written of an event: its answer, and per processor the linked and the
-    // running task.
+    // The bytes of a snapshot, which is what is written of an event: its answer, and for each processor the linked
+    // and the running task.
     pub const SNAPSHOT: usize = 1 + 2 * Processors::LIMIT;
 }

@@ -2,6 +2,6 @@
 use Prim.Native.Nat.{ℕ}
 use Rattle.numbers.specs.Limits.{mostTasks}
 
--- how many can wait: every task
+-- how many tasks can wait: all of them
 abbrev pub capacity : ℕ
 capacity = mostTasks

@@ -1,4 +1,4 @@
--- What a queue is, as the laws of queues say it.
+-- What holds of a queue, as the laws about queues need it.
 use Prim.Native.Nat.{ℕ, _≤_, _<_}
 use mathlib.Core.Path.{_≡_}
 use lib.ListN.{length, getD}
@@ -7,7 +7,8 @@ use Rattle.numbers.specs.Limits.{nobody}
 use Rattle.queue.specs.declared.Queue.{Queue}
 use Rattle.queue.specs.Waiting.{waiter}
 
--- no more wait than can, and places past the length are empty; the size is known of every `Queue` of the code
+-- no more tasks wait than there is room for, and the places past the length are empty; `sized` holds of every `Queue`
+-- of the code, by its type
 pub record Tidy (q : Queue) : Type 0 where
   pub sized : length (q .tasks) ≡ capacity
   pub fits : q .len ≤ capacity

@@ -23,7 +23,7 @@ waiter q i = getD (waiting q) i nobody
 unfoldable pub empty : Queue
 empty = record { tasks = replicate capacity nobody; len = 0 }
 
--- t waits behind the others; a full queue stays as it is
+-- t is enqueued at the end; a full queue stays as it is
 unfoldable pub appended : Queue → ℕ → Queue
 appended q t = if ltb (q .len) capacity then record { tasks = set (q .tasks) (q .len) t; len = q .len + 1 } else q
 
@@ -31,11 +31,11 @@ appended q t = if ltb (q .len) capacity then record { tasks = set (q .tasks) (q 
 unfoldable pub movedUp : List ℕ → List ℕ
 movedUp tasks = drop 1 tasks ++ (nobody ∷ [])
 
--- the first is gone, and the others move up a place; an empty queue stays as it is
+-- the first task is dequeued, and the others move up a place; an empty queue stays as it is
 unfoldable pub withoutFirst : Queue → Queue
 withoutFirst q = if ltb 0 (q .len) then record { tasks = movedUp (q .tasks); len = q .len - 1 } else q
 
--- the first place at which t waits, or the capacity
+-- the first place at which t waits; the capacity where it does not wait
 unfoldable pub placeOf : Queue → ℕ → ℕ
 placeOf q t = first (λ i. waiter q i is t) 0 capacity
 
@@ -43,6 +43,6 @@ placeOf q t = first (λ i. waiter q i is t) 0 capacity
 unfoldable pub isClear : Queue → ℕ → Bool
 isClear q i = leb (q .len) i implies (getD (q .tasks) i nobody is nobody)
 
--- no more wait than can, and places past the length are empty
+-- no more tasks wait than there is room for, and the places past the length are empty
 unfoldable pub isTidy : Queue → Bool
 isTidy q = leb (q .len) capacity && allBelow capacity (isClear q)

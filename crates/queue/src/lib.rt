@@ -1,19 +1,21 @@
-// A queue of tasks: who waits, in the order they asked. Every function answers for any content.
+// A queue of tasks: who waits, in the order they asked. Every function is defined for any content, tidy or not.
 use numbers::Limit;
 ghost use mathlib.Core.Path.{_≡_};
 ghost use lib.ListN.{getD};
 ghost use Rattle.numbers.specs.Limits.{nobody};
 ghost use Rattle.queue.specs.Waiting.{waiter, empty, appended, movedUp, withoutFirst, placeOf, isClear, isTidy};
 
+// The first `len` places hold the waiting tasks, the others nobody.
 pub struct Queue {
     pub tasks: [u8; Queue::CAPACITY],
     pub len: usize,
 }
 
 impl Queue {
-    // How many can wait: every task.
+    // How many tasks can wait: all of them.
     pub const CAPACITY: usize = Limit::TASKS;
 
+    // Nobody waits.
     pub fn empty() -> Queue
         ensures { λ r. ⌜ r ≡ empty ⌝ }
     {
@@ -35,12 +37,14 @@ impl Queue {
         }
     }
 
+    // The task that waits first, or nobody.
     pub fn first(self) -> u8
         ensures { λ r. ⌜ r ≡ waiter self 0 ⌝ }
     {
         self.waiter(0)
     }
 
+    // Enqueues `task` at the end; a full queue stays as it is.
     pub fn append(self, task: u8) -> Queue
         ensures { λ r. ⌜ r ≡ appended self task ⌝ }
     {
@@ -53,6 +57,7 @@ impl Queue {
         next
     }
 
+    // Dequeues the first task, and the others move up a place; an empty queue stays as it is.
     pub fn without_first(self) -> Queue
         ensures { λ r. ⌜ r ≡ withoutFirst self ⌝ }
     {
@@ -68,7 +73,7 @@ impl Queue {
         }
     }
 
-    // The first place at which `task` waits, or the capacity.
+    // The first place at which `task` waits, or the capacity. The loop counts down, so that the first place remains.
     pub fn place_of(self, task: u8) -> usize
         ensures { λ r. ⌜ r ≡ placeOf self task ⌝ }
     {
@@ -80,7 +85,7 @@ impl Queue {
         found
     }
 
-    // No more wait than can, and places past the length are empty.
+    // No more tasks wait than there is room for, and the places past the length are empty.
     pub fn is_tidy(self) -> bool
         ensures { λ r. ⌜ r ≡ isTidy self ⌝ }
     {

@@ -10,7 +10,7 @@ use lib.ListN.{drop}
 use borrow.Author.Tests.{leb-false, eq-eqb, ne-eqb}
 use Rattle.search.specs.Words.{if_then_else_, _is_}
 use Rattle.numbers.specs.Rows.{firstOf}
-use Rattle.scenario.specs.Words.{behind, word}
+use Rattle.scenario.specs.Words.{word}
 use Rattle.scenario.specs.Items.{unknown, noMore, itemCount, entryAt, sortAt, argumentAt, wrongRows, itemBehind}
 use Rattle.scenario.specs.Reads.{IsRead, Fit, formOf}
 use Rattle.scenario.specs.declared.Argument.{Argument}

@@ -1,4 +1,5 @@
--- A whole scenario: what its items say, the blocks that they write, and the theorem that these say the same.
+-- RULES.md, 'Scenarios': a whole scenario. What its items say, the blocks that they write, and the theorem that these
+-- say the same.
 use Prim.Native.Nat.{ℕ, _<_}
 use mathlib.Core.Path.{_≡_}
 use mathlib.Core.Bool.{Bool, true, false}
@@ -21,6 +22,7 @@ use Rattle.scenario.specs.declared.Told.{Told}
 use Rattle.scenario.specs.declared.Told.the-variants.{Kept, Written, Faulty, Refused}
 
 -- ---- what items say, in order: a set-up, and events
+-- the set-up after an item
 unfoldable pub setupWith : Item → Setup → Setup
 setupWith Blank c = c
 setupWith (Processors n) c = withProcessors c n
@@ -32,10 +34,12 @@ setupWith (Happens e) c = c
 setupWith Block c = c
 setupWith (Wrong reason) c = c
 
+-- the set-up after some items
 unfoldable pub setupSaid : Setup → List Item → Setup
 setupSaid c [] = c
 setupSaid c (item ∷ items) = setupSaid (setupWith item c) items
 
+-- the events of an item, and those of the items after it
 unfoldable pub eventsWith : Item → List Event → List Event
 eventsWith Blank es = es
 eventsWith (Processors n) es = es
@@ -47,40 +51,46 @@ eventsWith (Happens e) es = e ∷ es
 eventsWith Block es = es
 eventsWith (Wrong reason) es = es
 
+-- the events of some items
 unfoldable pub eventsSaid : List Item → List Event
 eventsSaid [] = []
 eventsSaid (item ∷ items) = eventsWith item (eventsSaid items)
 
--- ---- the blocks that items write, from a draft on, up to the first that is faulty or refused; and whether none is
+-- ---- the blocks that items write
+-- the blocks up to the first item that is faulty or refused, and whether there is no such item
 pub record Blocks : Type 0 where
   pub all : Bool
   pub blocks : List (List ℕ)
 
--- what was told of an item, with the block written, before the blocks of the later items
+-- the blocks of an item, by what became of it and the block that it wrote, and those of the items after it
 unfoldable pub before : Told → List ℕ → Blocks → Blocks
 before Kept block rest = rest
 before Written block rest = record { all = rest .all; blocks = block ∷ rest .blocks }
 before (Faulty reason) block rest = record { all = false; blocks = [] }
 before (Refused number) block rest = record { all = false; blocks = [] }
 
+-- the block that is lent to each item
 abbrev pub lent : List ℕ
 lent = replicate blockSize 0
 
+-- the blocks that items write, from a draft on
 unfoldable pub blocksFrom : Draft → List Item → Blocks
 blocksFrom d [] = record { all = true; blocks = [] }
 blocksFrom d (item ∷ items) =
     let t = taken d item lent in
     before (t .0 .told) (t .1) (blocksFrom (t .0 .draft) items)
 
--- of a scenario's lines; at its end it is as if `block` stood there
+-- the items of a scenario's lines
 abbrev pub itemsOf : List (List ℕ) → List Item
 itemsOf lines = map itemOf lines
 
+-- the blocks of a scenario's lines; the end of the text acts as the item `block`
 abbrev pub blocksMade : List (List ℕ) → Blocks
 blocksMade lines = blocksFrom noDraft (itemsOf lines ++ (Block ∷ []))
 
--- ---- a scenario with no line that is faulty or refused: the reader accepts each block, and reads the set-up and the
--- events that the lines say, places past the counts being 0
+-- ---- the theorem
+-- the reader accepts each block, and reads the set-up and the events that the lines say, places past the counts being
+-- 0
 pub record IsMade (lines : List (List ℕ)) : Type 0 where
   pub accepted : (i : ℕ) → i < length (blocksMade lines .blocks)
       → refusalOf (getD (blocksMade lines .blocks) i []) i ≡ 0
@@ -88,5 +98,6 @@ pub record IsMade (lines : List (List ℕ)) : Type 0 where
   pub free : setupRefusal (setupSaid noSetup (itemsOf lines)) ≡ 0
   pub events : eventsOf (blocksMade lines .blocks) ≡ eventsSaid (itemsOf lines)
 
+-- that holds of every scenario with no line that is faulty or refused
 abbrev pub MadeReadsBack : Type 0
 MadeReadsBack = (lines : List (List ℕ)) → blocksMade lines .all ≡ true → IsMade lines

@@ -20,6 +20,7 @@ ghost use Rattle.scenario.specs.SetupItems.{withTask, withResource, with
 ghost use Rattle.scenario.specs.Drafts.{twice, full, noEvents, adding, noDraft, sizedBy, startedAt, withSetup, settled, setupEnds, blockEnds, eventTaken, blockTaken, taken};
 ghost use Rattle.scenario.specs.Drafts as spec;
 
+// No events yet.
 fn no_events() -> Events
     ensures { λ r. ⌜ r ≡ noEvents ⌝ }
 {
@@ -29,6 +30,7 @@ fn no_events() -> Events
     }
 }
 
+// The events, and `e` after them.
 fn with_event(events: Events, e: Event) -> Events
     requires { ⌜ events .count < mostEvents ⌝ }
     ensures { λ r. ⌜ r ≡ adding e events ⌝ }
@@ -40,7 +42,7 @@ fn with_event(events: Events, e: Event) -> Events
     next
 }
 
-// Nothing is given yet.
+// A draft to which nothing is given yet.
 pub fn begin() -> Draft
     ensures { λ r. ⌜ r ≡ noDraft ⌝ }
 {
@@ -53,6 +55,7 @@ pub fn begin() -> Draft
     }
 }
 
+// The item is kept, and nothing is written.
 fn kept(next: Draft) -> Taken
     ensures { λ r. ⌜ r ≡ spec.kept next ⌝ }
 {
@@ -62,6 +65,7 @@ fn kept(next: Draft) -> Taken
     }
 }
 
+// Something is wrong with the item, and the draft stays as it was.
 fn faulty(draft: Draft, reason: u8) -> Taken
     ensures { λ r. ⌜ r ≡ spec.faulty draft reason ⌝ }
 {
@@ -71,6 +75,7 @@ fn faulty(draft: Draft, reason: u8) -> Taken
     }
 }
 
+// The draft with another set-up.
 fn with_setup(draft: Draft, setup: Setup) -> Draft
     ensures { λ r. ⌜ r ≡ withSetup draft setup ⌝ }
 {
@@ -79,7 +84,7 @@ fn with_setup(draft: Draft, setup: Setup) -> Draft
     next
 }
 
-// With block `index` begun, and these events in it.
+// The draft with block `index` begun, and these events in it.
 fn filling(draft: Draft, index: u64, events: Events) -> Draft
     ensures { λ r. ⌜ r ≡ spec.filling draft index events ⌝ }
 {
@@ -90,7 +95,8 @@ fn filling(draft: Draft, index: u64, events: Events) -> Draft
 }
 
 // ---- the items of the set-up
-// An item of the set-up, which gives the next draft where it comes before the set-up's end and nothing bars it.
+// An item of the set-up, after which the draft is `next`. It is faulty after the set-up's end, and, for `reason`,
+// where `bars` holds.
 fn settle(draft: Draft, reason: u8, bars: bool, next: Draft) -> Taken
     ensures { λ r. ⌜ r ≡ settled draft reason bars next ⌝ }
 {
@@ -103,6 +109,7 @@ fn settle(draft: Draft, reason: u8, bars: bool, next: Draft) -> Taken
     kept(next)
 }
 
+// The processors, which come once.
 fn take_processors(draft: Draft, n: u32) -> Taken
     ensures { λ r. ⌜ r ≡ settled draft twice (draft .sized) (sizedBy draft n) ⌝ }
 {
@@ -111,6 +118,7 @@ fn take_processors(draft: Draft, n: u32) -> Taken
     settle(draft, Item::TWICE, draft.sized, next)
 }
 
+// The start, which comes at most once.
 fn take_start(draft: Draft, start: u32) -> Taken
     ensures { λ r. ⌜ r ≡ settled draft twice (draft .started) (startedAt draft start) ⌝ }
 {
@@ -119,6 +127,7 @@ fn take_start(draft: Draft, start: u32) -> Taken
     settle(draft, Item::TWICE, draft.started, next)
 }
 
+// One task more.
 fn take_task(draft: Draft, period: u16) -> Taken
     ensures { λ r. ⌜ r ≡ settled draft full (leb mostTasks (draft .setup .tasks))
         (withSetup draft (withTask (draft .setup) period)) ⌝ }
@@ -128,6 +137,7 @@ fn take_task(draft: Draft, period: u16) -> Taken
     settle(draft, Item::FULL, Setup::TASKS <= setup.tasks, next)
 }
 
+// One resource more.
 fn take_resource(draft: Draft, kind: u8) -> Taken
     ensures { λ r. ⌜ r ≡ settled draft full (leb mostResources (draft .setup .resources))
         (withSetup draft (withResource (draft .setup) kind)) ⌝ }
@@ -137,6 +147,7 @@ fn take_resource(draft: Draft, kind: u8) -> Taken
     settle(draft, Item::FULL, Setup::RESOURCES <= setup.resources, next)
 }
 
+// One pair more.
 fn take_pair(draft: Draft, outer: u8, inner: u8) -> Taken
     ensures { λ r. ⌜ r ≡ settled draft full (leb mostPairs (draft .setup .pairs))
         (withSetup draft (withPair (draft .setup) outer inner)) ⌝ }
@@ -147,7 +158,8 @@ fn take_pair(draft: Draft, outer: u8, inner: u8) -> Taken
 }
 
 // ---- the blocks
-// A block was written, or its refusal was answered.
+// The writer's answer to a block: it is written, and the draft is `next`; or it is refused, and the draft stays as it
+// was.
 fn answered(draft: Draft, next: Draft, number: u8) -> Taken
     ensures { λ r. ⌜ r ≡ spec.answered draft next number ⌝ }
 {
@@ -184,10 +196,11 @@ fn end_block(draft: Draft, events: Events, out: &mut [u8]) -> Taken
     if number != 0 {
         return answered(draft, draft, number);
     }
-    // A block that is written has an index that another can follow.
+    // The index of a written block is within its limit, so adding 1 does not overflow.
     answered(draft, filling(draft, index + 1, events), number)
 }
 
+// An event. The first one ends the set-up, and one that finds its block full ends that block.
 fn take_event(draft: Draft, e: Event, out: &mut [u8]) -> Taken
     ensures { λ r. ⌜ (r, now (out .exit)) ≡ eventTaken draft e (now (out .entry)) ⌝ }
 {
@@ -201,6 +214,7 @@ fn take_event(draft: Draft, e: Event, out: &mut [u8]) -> Taken
     kept(filling(draft, draft.index, with_event(events, e)))
 }
 
+// The next block begins; one without events is not written.
 fn take_block(draft: Draft, out: &mut [u8]) -> Taken
     ensures { λ r. ⌜ (r, now (out .exit)) ≡ blockTaken draft (now (out .entry)) ⌝ }
 {
@@ -214,7 +228,7 @@ fn take_block(draft: Draft, out: &mut [u8]) -> Taken
     end_block(draft, no_events(), out)
 }
 
-// Takes an item. The block that it completes, if any, is written into `out`, which stays as lent otherwise.
+// Takes an item. The block that it completes, if any, is written into `out`; otherwise `out` stays as lent.
 pub fn take_item(draft: Draft, item: Item, out: &mut [u8]) -> Taken
     ensures { λ r. ⌜ (r, now (out .exit)) ≡ taken draft item (now (out .entry)) ⌝ }
 {

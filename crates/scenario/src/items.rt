@@ -17,7 +17,7 @@ ghost use Rattle.scenario.specs.Items.{itemCount, itemNamed, itemBehind,
 ghost use Rattle.scenario.specs.Reads.{formOf, arriveItem, eventItem, Fit, Says};
 ghost use Rattle.scenario.specs.Items as spec;
 
-// The items' names, by number, and how many there are.
+// The items by number, and how many there are.
 const PROCESSORS: usize = 0;
 
 const START: usize = 1;
@@ -44,7 +44,7 @@ const BLOCK: usize = 11;
 
 const ITEMS: usize = 12;
 
-// What stands behind a name: the sorts of up to four words.
+// The sorts of up to four words after a name.
 const NOTHING: Form = Form(Form::NO_MORE, Form::NO_MORE, Form::NO_MORE, Form::NO_MORE);
 
 const A_CLOCK: Form = Form(Form::CLOCK, Form::NO_MORE, Form::NO_MORE, Form::NO_MORE);
@@ -63,14 +63,14 @@ const TWO_BYTES_TICK: Form = Form(Form::BYTE, Form::BYTE, Form::TICK, Form::NO_M
 
 const THREE_BYTES_TICK: Form = Form(Form::BYTE, Form::BYTE, Form::BYTE, Form::TICK);
 
-// By item, in the order of their names.
+// The sorts of the words of each item.
 const FORMS: [Form; ITEMS] = [
     A_CLOCK,
     A_CLOCK,
     A_PERIOD,
     A_KIND,
     TWO_BYTES,
-    // From here on events, and `block` last.
+    // From here on events; `block` is last.
     BYTE_TICK,
     BYTE_TICK,
     TWO_BYTES_TICK,
@@ -80,13 +80,14 @@ const FORMS: [Form; ITEMS] = [
     NOTHING,
 ];
 
+// The sorts of the words of an item; none past the last item.
 fn form_of(item: usize) -> Form
     ensures { λ r. ⌜ r ≡ formOf item ⌝ }
 {
     if item < ITEMS { FORMS[item] } else { NOTHING }
 }
 
-// The item of a name, or past the last one.
+// The item with a name, or `ITEMS`. From the last item to the first: see `search::pick`.
 fn item_named(word: &[u8]) -> usize
     ensures { λ r. ⌜ r ≡ itemNamed (now (word .entry)) ⌝ }
 {
@@ -104,19 +105,22 @@ fn item_named(word: &[u8]) -> usize
     search::pick(is_word(word, b"processors"), PROCESSORS, start)
 }
 
-// ---- what an item says, with the values behind its name
+// ---- what an item says with the values of its words
+// A value as one byte; where it fits, it is kept.
 fn low_byte(value: u32) -> u8
     ensures { λ r. ⌜ r ≡ value % 256 ⌝ }
 {
     (value % 256) as u8
 }
 
+// A value as two bytes; where it fits, it is kept.
 fn low_word(value: u32) -> u16
     ensures { λ r. ⌜ r ≡ value % 65536 ⌝ }
 {
     (value % 65536) as u16
 }
 
+// The item of an event.
 fn event(kind: u8, task: u8, resource: u8, tick: u16) -> Item
     ensures { λ r. ⌜ r ≡ spec.event kind task resource tick ⌝ }
 {
@@ -128,6 +132,7 @@ fn event(kind: u8, task: u8, resource: u8, tick: u16) -> Item
     })
 }
 
+// What an item from `arrive` to `event` says with the values of its words.
 fn event_said(item: usize, a: u32, b: u32, c: u32, d: u32) -> Item
     requires { ⌜ (arriveItem ≤ item) × (item ≤ eventItem) × Fit item a b c d ⌝ }
     ensures { λ r. ⌜ Says item a b c d r ⌝ }
@@ -150,6 +155,7 @@ fn event_said(item: usize, a: u32, b: u32, c: u32, d: u32) -> Item
     event(low_byte(a), low_byte(b), low_byte(c), low_word(d))
 }
 
+// What an item says with the values of its words.
 fn said(item: usize, a: u32, b: u32, c: u32, d: u32) -> Item
     requires { ⌜ (item < itemCount) × Fit item a b c d ⌝ }
     ensures { λ r. ⌜ Says item a b c d r ⌝ }
@@ -175,14 +181,15 @@ fn said(item: usize, a: u32, b: u32, c: u32, d: u32) -> Item
     event_said(item, a, b, c, d)
 }
 
-// One row for a word that may not be of its sort.
+// One row of the list of faults: a word that is not of its sort.
 fn misfit(sort: u8, argument: Argument, later: u8) -> u8
     ensures { λ r. ⌜ r ≡ (if not (argument .right) then sort else later) ⌝ }
 {
     numbers::row(sort, !argument.right, later)
 }
 
-// The item with what stands behind its name, from a place on.
+// What a line says that names `item` and has that item's words from `at` on; or what is wrong with it. The rows go
+// from the last to the first: see `numbers::row`.
 fn item_behind(l: &[u8], at: usize, item: usize) -> Item
     requires { ⌜ at ≤ length (now l) ⌝ }
     ensures { λ r. ⌜ r ≡ itemBehind item (drop at (now (l .entry))) ⌝ }

@@ -1,4 +1,4 @@
-// Scenarios: a plain text, an item a line, and the block file that it describes.
+// Scenarios: plain texts with one item a line, and the block files that they describe.
 mod drafts;
 mod items;
 mod reading;
@@ -11,7 +11,7 @@ use input::Setup;
 pub use items::read_line;
 use writer::Events;
 
-// What a line of a scenario is. A wrong one carries its reason.
+// What a line of a scenario says. A wrong one carries its reason.
 pub enum Item {
     Blank,
     Processors(u32),
@@ -28,7 +28,7 @@ pub enum Item {
 impl Item {
     // Its first word is no item's name.
     pub const UNKNOWN: u8 = 1;
-    // It stands behind the set-up's end, it stands twice, its table is full, or the processors are not given.
+    // The item comes after the set-up's end; it comes a second time; its table is full; the processors are not given.
     pub const LATE: u8 = 8;
 
     pub const TWICE: u8 = 9;
@@ -38,8 +38,8 @@ impl Item {
     pub const MISSING: u8 = 11;
 }
 
-// The sorts of word behind an item's name: no word more, a number, a tick, a kind of resource. The number of a sort is
-// also the reason of a line where a word is not of it.
+// The sorts of the words after an item's name: no word more, a number, a tick, a kind of resource. The number of a
+// sort is also the reason given for a word that is not of it.
 impl Form {
     pub const NO_MORE: u8 = 2;
 
@@ -54,7 +54,7 @@ impl Form {
     pub const KIND: u8 = 7;
 }
 
-// The sorts of the words behind an item's name.
+// The sorts of the four words that may follow an item's name.
 pub struct Form(pub u8, pub u8, pub u8, pub u8);
 
 // A word as one of a sort: whether it is one, and its value.
@@ -63,7 +63,7 @@ struct Argument {
     value: u32,
 }
 
-// An argument that was read from a line, and the place behind it.
+// An argument that was read from a line, and the place where its word ends.
 struct Read {
     argument: Argument,
     end: usize,
@@ -88,6 +88,7 @@ pub enum Told {
     Refused(u8),
 }
 
+// The draft after an item, and what became of the item.
 pub struct Taken {
     pub draft: Draft,
     pub told: Told,

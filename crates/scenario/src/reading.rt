@@ -11,6 +11,7 @@ ghost use Rattle.scenario.specs.Items.{mostOf, numberIn, tickIn, kindIn,
 ghost use Rattle.scenario.specs.Items as spec;
 ghost use Rattle.scenario.specs.Reads.{IsRead};
 
+// The characters that matter in a line.
 const TAB: u8 = 9;
 
 const CARRIAGE_RETURN: u8 = 13;
@@ -35,7 +36,7 @@ fn unended_length(line: &[u8]) -> usize
     len
 }
 
-// How much of a line is read: all before its remark.
+// How much of a line is read: all before its remark, without a carriage return at its end.
 pub fn said_length(line: &[u8]) -> usize
     ensures { λ r. ⌜ (take r (now (line .entry)) ≡ said (now (line .entry))) × (r ≤ length (now (line .entry))) ⌝ }
 {
@@ -43,13 +44,14 @@ pub fn said_length(line: &[u8]) -> usize
     bytes::scan::find(line, 0, len, HASH)
 }
 
+// A space or a tab.
 fn is_blank(c: u8) -> bool
     ensures { λ r. ⌜ r ≡ isBlank c ⌝ }
 {
     (c == SPACE) | (c == TAB)
 }
 
-// Where the blanks from a place on end, and where the word does.
+// Where the blanks from a place on end.
 pub fn blanks_end(l: &[u8], from: usize) -> usize
     requires { ⌜ from ≤ length (now l) ⌝ }
     ensures { λ r. ⌜ (r ≡ from + blanks (drop from (now (l .entry)))) × (r ≤ length (now (l .entry))) ⌝ }
@@ -64,6 +66,7 @@ pub fn blanks_end(l: &[u8], from: usize) -> usize
     i
 }
 
+// Where the word from a place on ends.
 pub fn word_end(l: &[u8], from: usize) -> usize
     requires { ⌜ from ≤ length (now l) ⌝ }
     ensures { λ r. ⌜ (r ≡ from + letters (drop from (now (l .entry)))) × (r ≤ length (now (l .entry))) ⌝ }
@@ -78,6 +81,7 @@ pub fn word_end(l: &[u8], from: usize) -> usize
     i
 }
 
+// Whether a word is this name.
 pub fn is_word(word: &[u8], name: &[u8]) -> bool
     ensures { λ r. ⌜ r ≡ areSame (now (word .entry)) (now (name .entry)) ⌝ }
 {
@@ -94,24 +98,27 @@ pub fn is_word(word: &[u8], name: &[u8]) -> bool
     true
 }
 
+// A word that is not of its sort.
 const NOT_ONE: Argument = Argument {
     right: false,
     value: 0,
 };
 
+// A decimal digit.
 fn is_digit(c: u8) -> bool
     ensures { λ r. ⌜ r ≡ isDigit c ⌝ }
 {
     (b'0' <= c) & (c <= b'9')
 }
 
+// The value of a digit.
 fn digit_value(c: u8) -> u64
     ensures { λ r. ⌜ (r ≡ c - 48) × (r < 256) ⌝ }
 {
     if c < b'0' { 0 } else { (c - b'0') as u64 }
 }
 
-// The largest value of each sort.
+// The largest value of a sort.
 fn most_of(sort: u8) -> u32
     ensures { λ r. ⌜ r ≡ mostOf sort ⌝ }
 {
@@ -130,7 +137,7 @@ fn most_of(sort: u8) -> u32
     0
 }
 
-// A number up to a limit, in decimal digits. Past the limit no digit brings it back, so the rest is not read.
+// A word as a number up to a limit. Past the limit no further digit makes it smaller, so the rest is not read.
 fn number_in(word: &[u8], most: u32) -> Argument
     ensures { λ r. ⌜ r ≡ numberIn most (now (word .entry)) ⌝ }
 {
@@ -156,12 +163,14 @@ fn number_in(word: &[u8], most: u32) -> Argument
     }
 }
 
+// A word that is of its sort, with its value.
 fn one(value: u32) -> Argument
     ensures { λ r. ⌜ r ≡ spec.one value ⌝ }
 {
     Argument { right: true, value }
 }
 
+// A word as a tick: `@` and a number.
 fn tick_in(word: &[u8]) -> Argument
     ensures { λ r. ⌜ r ≡ tickIn (now (word .entry)) ⌝ }
 {
@@ -174,6 +183,7 @@ fn tick_in(word: &[u8]) -> Argument
     number_in(&word[1..], most_of(Form::TICK))
 }
 
+// A word as a kind of resource.
 fn kind_in(word: &[u8]) -> Argument
     ensures { λ r. ⌜ r ≡ kindIn (now (word .entry)) ⌝ }
 {
@@ -186,6 +196,7 @@ fn kind_in(word: &[u8]) -> Argument
     NOT_ONE
 }
 
+// A word as one of a sort.
 fn argument_of(sort: u8, word: &[u8]) -> Argument
     ensures { λ r. ⌜ r ≡ argumentOf sort (now (word .entry)) ⌝ }
 {
@@ -201,7 +212,7 @@ fn argument_of(sort: u8, word: &[u8]) -> Argument
     number_in(word, most_of(sort))
 }
 
-// The first word from a place on, as one of a sort, and the place behind it.
+// The first word from a place on, as one of a sort, and the place where it ends.
 pub fn read_argument(l: &[u8], at: usize, sort: u8) -> Read
     requires { ⌜ at ≤ length (now l) ⌝ }
     ensures { λ r. ⌜ IsRead (now (l .entry)) at sort r ⌝ }

@@ -1,10 +1,11 @@
-// What an item gives to a set-up; where there is no room for it, the set-up stays as it is.
+// What an item adds to a set-up; where there is no room for it, the set-up stays as it is.
 use input::Setup;
 ghost use mathlib.Core.Path.{_≡_};
 ghost use Prim.Native.Nat.{_<_};
 ghost use Rattle.numbers.specs.Limits.{mostTasks, mostResources, mostPairs};
 ghost use Rattle.scenario.specs.SetupItems.{withProcessors, withStart, withTask, withResource, withPair};
 
+// The set-up with `n` processors.
 pub fn with_processors(setup: Setup, n: usize) -> Setup
     ensures { λ r. ⌜ r ≡ withProcessors setup n ⌝ }
 {
@@ -13,6 +14,7 @@ pub fn with_processors(setup: Setup, n: usize) -> Setup
     next
 }
 
+// The set-up with another start.
 pub fn with_start(setup: Setup, start: u32) -> Setup
     ensures { λ r. ⌜ r ≡ withStart setup start ⌝ }
 {
@@ -21,6 +23,7 @@ pub fn with_start(setup: Setup, start: u32) -> Setup
     next
 }
 
+// The set-up with one task more.
 pub fn with_task(setup: Setup, period: u16) -> Setup
     ensures { λ r. ⌜ (setup .tasks < mostTasks → r ≡ withTask setup period) ⌝ }
 {
@@ -34,6 +37,7 @@ pub fn with_task(setup: Setup, period: u16) -> Setup
     next
 }
 
+// The set-up with one resource more.
 pub fn with_resource(setup: Setup, kind: u8) -> Setup
     ensures { λ r. ⌜ (setup .resources < mostResources → r ≡ withResource setup kind) ⌝ }
 {
@@ -47,6 +51,7 @@ pub fn with_resource(setup: Setup, kind: u8) -> Setup
     next
 }
 
+// The set-up with one pair more.
 pub fn with_pair(setup: Setup, outer: u8, inner: u8) -> Setup
     ensures { λ r. ⌜ (setup .pairs < mostPairs → r ≡ withPair setup outer inner) ⌝ }
 {

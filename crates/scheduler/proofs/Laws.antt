@@ -1,8 +1,8 @@
 -- The laws of links and placements, as the layers above cite them. Ranks are distinct where a law's change of jobs says so (`Apart`). Assumes nothing.
 use Prim.Native.Nat.{ℕ, suc, _<_, _≤_}
-use mathlib.Core.Path.{_≡_, refl, subst, _∙_}
+use mathlib.Core.Path.{_≡_, refl, subst}
 use mathlib.Core.Bool.{Bool, true, false, _&&_}
-use mathlib.Core.Logic.{_≢_, _⊎_, inl, _↔_}
+use mathlib.Core.Logic.{_⊎_, inl, _↔_}
 use native.Mathlib.Omega.{arith}
 use native.Mathlib.Decide.{decLt}
 use lib.Dec.{ltb}

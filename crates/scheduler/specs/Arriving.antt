@@ -1,4 +1,4 @@
--- The rule 'Arrive or resume'.
+-- RULES.md, 'The scheduler's moves': arrive or resume.
 use Prim.Native.Nat.{ℕ}
 use mathlib.Core.Bool.{Bool, _&&_}
 use lib.Dec.{ltb}
@@ -11,6 +11,7 @@ use Rattle.processors.specs.Words.{modeOf, link, runs, isHigher, placeOn, linkO
 use Rattle.processors.specs.declared.Jobs.{Jobs}
 use Rattle.processors.specs.declared.Processors.{Processors}
 
+-- k is a processor
 abbrev pub isUsed : Processors → ℕ → Bool
 isUsed p k = ltb k (p .count)
 
@@ -26,7 +27,7 @@ lowestFree p = first (isFree p) 0 mostProcessors
 abbrev pub linksLower : Processors → Jobs → ℕ → ℕ → Bool
 linksLower p j a b = isHigher j (link p b) (link p a)
 
--- the processor with the lowest-priority linked job
+-- the processor with the lowest-priority linked job, or `mostProcessors` where there is no processor
 unfoldable pub lowestLinked : Processors → Jobs → ℕ
 lowestLinked p j = best (isUsed p) (linksLower p j) mostProcessors mostProcessors
 
@@ -34,22 +35,23 @@ lowestLinked p j = best (isUsed p) (linksLower p j) mostProcessors mostProcessor
 abbrev pub canPreempt : Processors → Jobs → ℕ → Bool
 canPreempt p j k = runs p k is link p k && modeOf j (link p k) is preemptable
 
--- Otherwise compare with the lowest-priority linked job, that of processor k: if the comer t is higher it takes that
--- link, and runs at once only if the displaced job is running and preemptable.
+-- No processor is unlinked, and k has the lowest-priority linked job: if the arriving job t is higher, it takes that
+-- link; it runs at once only if the displaced job is running and preemptable.
 unfoldable pub displacing : Processors → Jobs → ℕ → ℕ → Processors
 displacing p j t k =
     if ltb k mostProcessors && isHigher j t (link p k) then
     if canPreempt p j k then placeOn p k t else linkOn p k t
     else p
 
--- With an unlinked processor k, link to it and run there. k is the one taken, or `mostProcessors` where there is none.
+-- If k is an unlinked processor, t is linked to it and runs there; with `mostProcessors` for k there is none.
 unfoldable pub arrivingOn : Processors → Jobs → ℕ → ℕ → Processors
 arrivingOn p j t k = if ltb k mostProcessors then placeOn p k t else displacing p j t (lowestLinked p j)
 
--- the processor taken where k is suggested: k, if it is unlinked; else the lowest-numbered such processor
+-- the processor taken where k is suggested: k, if it is unlinked; else the lowest-numbered unlinked one, or
+-- `mostProcessors`
 unfoldable pub taken : Processors → ℕ → ℕ
 taken p k = if ltb k mostProcessors && isFree p k then k else lowestFree p
 
--- t arrives or resumes, and processor k is suggested; `nobody` suggests none, which is the choice of document 01
+-- t arrives or resumes, and processor k is suggested; `nobody` suggests none, as in the rules
 unfoldable pub arriving : Processors → Jobs → ℕ → ℕ → Processors
 arriving p j t k = arrivingOn p j t (taken p k)

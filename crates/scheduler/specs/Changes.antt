@@ -1,4 +1,4 @@
--- How the jobs of one moment, j, differ from those of the next, j′: what the laws of the moves are stated over.
+-- How the jobs change from one moment, j, to the next, j′: what the laws of the moves are stated over.
 use Prim.Native.Nat.{ℕ, _<_, _≤_}
 use mathlib.Core.Path.{_≡_}
 use mathlib.Core.Logic.{_≢_, _⊎_}
@@ -40,7 +40,7 @@ pub record BecomesPreemptable (j j′ : Jobs) (t : ℕ) : Type 0 where
   pub others : (u : ℕ) → u ≢ t → modeOf j′ u ≡ modeOf j u
   pub ranks : (u : ℕ) → rankOf j′ u ≡ rankOf j u
 
--- t is not runnable any more, and h takes t's rank where that is higher: h inherits, then t suspends
+-- t is no longer runnable, and h takes t's priority where that is higher: h inherits, then t suspends
 pub record Inherits (j j′ : Jobs) (t h : ℕ) : Type 0 where
   pub gone : Runnable j′ t → ⊥
   pub rank-falls : rankOf j′ h ≤ rankOf j h
@@ -49,13 +49,13 @@ pub record Inherits (j j′ : Jobs) (t h : ℕ) : Type 0 where
   pub modes : (u : ℕ) → u ≢ t → modeOf j′ u ≡ modeOf j u
   pub apart : Apart j′
 
--- t is not runnable any more: it finishes or suspends, and nobody inherits
+-- t is no longer runnable: it finishes or suspends, and nobody inherits
 pub record Leaves (j j′ : Jobs) (t : ℕ) : Type 0 where
   pub gone : Runnable j′ t → ⊥
   pub others : (u : ℕ) → u ≢ t → (rankOf j′ u ≡ rankOf j u) × (modeOf j′ u ≡ modeOf j u)
   pub apart : Apart j′
 
--- t's rank rises: its priority is restored
+-- t's rank rises, as its own priority is restored
 pub record Restores (j j′ : Jobs) (t : ℕ) : Type 0 where
   pub rank-rises : rankOf j t ≤ rankOf j′ t
   pub others : (u : ℕ) → u ≢ t → rankOf j′ u ≡ rankOf j u

@@ -11,11 +11,12 @@ use Rattle.processors.specs.Words.{link, runs, runOf, rankOf, modeOf, isRunnabl
 use Rattle.processors.specs.declared.Jobs.{Jobs}
 use Rattle.processors.specs.declared.Processors.{Processors}
 
+-- t is a task with a runnable job
 pub record Runnable (j : Jobs) (t : ℕ) : Type 0 where
   pub task : t < mostTasks
   pub mode : preemptable ≤ modeOf j t
 
--- the arrays have their lengths; what the types say, and no test has to
+-- the arrays have their lengths; the types say so, and no test checks it
 pub record Sized (p : Processors) : Type 0 where
   pub links : length (p .linked) ≡ mostProcessors
   pub runnings : length (p .running) ≡ mostProcessors
@@ -45,21 +46,22 @@ pub record Settled (p : Processors) (j : Jobs) : Type 0 where
 abbrev pub Unlinked : Processors → ℕ → Type 0
 Unlinked p t = (k : ℕ) → link p k ≢ t
 
+-- links and placements hold, and the linked jobs are the highest-priority runnable ones
 pub record Placed (p : Processors) (j : Jobs) : Type 0 where
   pub settled : Settled p j
   -- where a runnable job is unlinked, every processor has a link of higher priority
   pub highest : (k t : ℕ) → k < p .count → Runnable j t → Unlinked p t
       → (link p k ≢ nobody) × (rankOf j (link p k) < rankOf j t)
 
--- the same by counting: linked are the runnable jobs with fewer than `count` runnable jobs of higher priority, as
--- many as there are processors or runnable jobs, if fewer
+-- the same by counting: a job is linked exactly if it is runnable and fewer than `count` runnable jobs are higher;
+-- and as many are linked as there are processors, or runnable jobs if fewer
 pub record Counted (p : Processors) (j : Jobs) : Type 0 where
   pub highest : (t : ℕ) → t < mostTasks
       → ((k : ℕ) × (link p k ≡ t)) ↔ (Runnable j t × (howMany (isAhead j t) mostTasks < p .count))
   pub many : howMany (λ k. link p k isn't nobody) mostProcessors ≡ min (p .count) (howMany (isRunnable j) mostTasks)
 
--- what is owed, by this scheduler or another, to those above it: who runs is runnable, and every non-preemptable job
--- runs, on one of the processors that there are
+-- what the locks need of a scheduler, this one or another: only runnable jobs run, and every non-preemptable job
+-- runs, on a processor below the count
 pub record Served (p : Processors) (j : Jobs) : Type 0 where
   pub runnable : (t : ℕ) → t < mostTasks → runOf p t < mostProcessors → Runnable j t
   pub nonpreemptable : (t : ℕ) → t < mostTasks → modeOf j t ≡ nonPreemptable

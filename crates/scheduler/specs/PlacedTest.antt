@@ -29,7 +29,7 @@ module _ (p : Processors) (j : Jobs) where
       && (ltb (linkOf p (runs p k)) mostProcessors implies linkOf p (runs p k) is k)
       && (modeOf j (runs p k) is preemptable implies link p k is runs p k))
 
-  -- from the count on there is neither link nor job
+  -- the clauses of processor k; from the count on there is neither link nor job
   abbrev pub processorHolds : ℕ → Bool
   processorHolds k = linkHolds k && runHolds k && (leb (p .count) k implies (link p k is nobody && runs p k is nobody))
 
@@ -43,5 +43,6 @@ module _ (p : Processors) (j : Jobs) where
       (isUnlinked p j t implies allBelow mostProcessors (linksHigher t))
       && (modeOf j t is nonPreemptable implies ltb (runOf p t) mostProcessors)
 
+  -- all of `Placed` but the lengths, which the types give
   unfoldable pub isPlaced : Bool
   isPlaced = leb (p .count) mostProcessors && allBelow mostProcessors processorHolds && allBelow mostTasks taskHolds

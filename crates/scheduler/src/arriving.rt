@@ -1,7 +1,9 @@
 // Arrive or resume.
 use numbers::Limit;
 use processors::Jobs;
+use processors::Modes;
 use processors::Processors;
+use processors::Ranks;
 use processors::is_higher;
 use processors::link_at;
 use processors::link_on;
@@ -16,19 +18,21 @@ ghost use Rattle.numbers.specs.Limits.{mostProcessors};
 ghost use Rattle.processors.specs.Words.{jobsFrom};
 ghost use Rattle.scheduler.specs.Arriving.{isUsed, isFree, lowestFree, linksLower, lowestLinked, canPreempt, displacing, taken, arriving};
 
+// Processor `k` is unlinked.
 fn is_free(p: Processors, k: usize) -> bool
     ensures { λ r. ⌜ r ≡ isFree p k ⌝ }
 {
     (k < p.count) & (link_at(p, k) == Limit::NOBODY)
 }
 
+// A truth value as one bit of a mask.
 fn bit_of(b: bool) -> u32
     ensures { λ r. ⌜ r ≡ bit b ⌝ }
 {
     if b { 1 } else { 0 }
 }
 
-// The unlinked processors: bit k is processor k.
+// The unlinked processors: bit k is processor k. From the last to the first, as each turn shifts the bits so far up.
 fn free_mask(p: Processors) -> u32
     ensures { λ r. ⌜ r ≡ mask (isFree p) 0 mostProcessors ⌝ }
 {
@@ -39,8 +43,8 @@ fn free_mask(p: Processors) -> u32
     free
 }
 
-// The better of processor `k` and the best so far, where the better is the one with the lower-priority link.
-fn lower_link(p: Processors, ranks: &[u64; Jobs::LIMIT], k: usize, best: usize) -> usize
+// Of processor `k` and the best so far, the one with the lower-priority link; `Processors::LIMIT` is none so far.
+fn lower_link(p: Processors, ranks: &Ranks, k: usize, best: usize) -> usize
     ensures { λ r. ⌜ r ≡ better (isUsed p) (linksLower p (jobsFrom (now (ranks .entry)) [])) mostProcessors k best ⌝ }
 {
     if k < p.count {
@@ -56,7 +60,7 @@ fn lower_link(p: Processors, ranks: &[u64; Jobs::LIMIT], k: usize, best: usize) 
 }
 
 // The processor with the lowest-priority linked job.
-fn lowest_linked(p: Processors, ranks: &[u64; Jobs::LIMIT]) -> usize
+fn lowest_linked(p: Processors, ranks: &Ranks) -> usize
     ensures { λ r. ⌜ r ≡ lowestLinked p (jobsFrom (now (ranks .entry)) []) ⌝ }
 {
     let mut best = Processors::LIMIT;
@@ -67,21 +71,16 @@ fn lowest_linked(p: Processors, ranks: &[u64; Jobs::LIMIT]) -> usize
 }
 
 // The job linked to processor `k` is running and preemptable.
-fn can_preempt(p: Processors, modes: &[u8; Jobs::LIMIT], k: usize) -> bool
+fn can_preempt(p: Processors, modes: &Modes, k: usize) -> bool
     ensures { λ r. ⌜ r ≡ canPreempt p (jobsFrom [] (now (modes .entry))) k ⌝ }
 {
     let t = link_at(p, k);
     (runs_at(p, k) == t) & (mode_of(modes, t) == Jobs::PREEMPTABLE)
 }
 
-// The comer `t` takes the link of processor `k` if it is higher than the job linked there.
-fn displace(
-    p: Processors,
-    ranks: &[u64; Jobs::LIMIT],
-    modes: &[u8; Jobs::LIMIT],
-    t: u8,
-    k: usize,
-) -> Processors
+// The arriving job of `t` takes the link of processor `k` if it is higher than the job linked there; it runs at once
+// only if that job can be preempted.
+fn displace(p: Processors, ranks: &Ranks, modes: &Modes, t: u8, k: usize) -> Processors
     ensures { λ r. ⌜ r ≡ displacing p (jobsFrom (now (ranks .entry)) (now (modes .entry))) t k ⌝ }
 {
     if k < Processors::LIMIT {
@@ -111,7 +110,7 @@ fn lowest_free(p: Processors) -> usize
     }
 }
 
-// Processor `k`, if it is unlinked; else the lowest-numbered one that is.
+// Processor `k`, if it is unlinked; else the lowest-numbered unlinked one, or `Processors::LIMIT`.
 fn take(p: Processors, k: usize) -> usize
     ensures { λ r. ⌜ r ≡ taken p k ⌝ }
 {
@@ -119,15 +118,10 @@ fn take(p: Processors, k: usize) -> usize
     if is_taken { k } else { lowest_free(p) }
 }
 
-// The job of `t` arrives or resumes, and the tables have it so: on processor `k` if it is unlinked, else on the
-// lowest-numbered that is. `Limit::NOBODY` suggests none.
-pub fn arrive(
-    p: Processors,
-    ranks: &[u64; Jobs::LIMIT],
-    modes: &[u8; Jobs::LIMIT],
-    t: u8,
-    k: u8,
-) -> Processors
+// The job of `t` arrives or resumes; the tables have it so already. It takes processor `k` if that is unlinked, else
+// the lowest-numbered unlinked one; without any it may displace the lowest-priority linked job. `Limit::NOBODY` for
+// `k` suggests none.
+pub fn arrive(p: Processors, ranks: &Ranks, modes: &Modes, t: u8, k: u8) -> Processors
     ensures { λ r. ⌜ r ≡ arriving p (jobsFrom (now (ranks .entry)) (now (modes .entry))) t k ⌝ }
 {
     let taken = take(p, k as usize);

@@ -1,7 +1,9 @@
-// Becoming preemptable; finish or suspend; giving way at the end of a long request.
+// Become preemptable; finish or suspend; give way at the end of a long request.
 use numbers::Limit;
 use processors::Jobs;
+use processors::Modes;
 use processors::Processors;
+use processors::Ranks;
 use processors::is_higher;
 use processors::is_unlinked;
 use processors::link_at;
@@ -25,7 +27,8 @@ fn is_awaited(p: Processors, k: usize) -> bool
     (t != Limit::NOBODY) & (t != runs_at(p, k))
 }
 
-// A job that became preemptable where it runs lets the job run that its processor is linked to.
+// The job of `t` became preemptable: if the processor that it runs on is linked to another job, that one runs
+// instead.
 pub fn become_preemptable(p: Processors, t: u8) -> Processors
     ensures { λ r. ⌜ r ≡ becomingPreemptable p t ⌝ }
 {
@@ -41,14 +44,8 @@ pub fn become_preemptable(p: Processors, t: u8) -> Processors
     }
 }
 
-// The better of task `t` and the best so far, where only unlinked runnable jobs count.
-fn higher_task(
-    p: Processors,
-    ranks: &[u64; Jobs::LIMIT],
-    modes: &[u8; Jobs::LIMIT],
-    t: u8,
-    best: u8,
-) -> u8
+// Of task `t` and the best so far, the higher one; only unlinked runnable jobs count. `Jobs::END` is none so far.
+fn higher_task(p: Processors, ranks: &Ranks, modes: &Modes, t: u8, best: u8) -> u8
     ensures { λ r. ⌜ r ≡ better
         (isUnlinked p (jobsFrom [] (now (modes .entry)))) (isHigher (jobsFrom (now (ranks .entry)) []))
         mostTasks t best ⌝ }
@@ -72,12 +69,7 @@ fn end_of(n: usize) -> u8
 }
 
 // The highest-priority unlinked runnable job of the first `tasks` tasks, or `Jobs::END`.
-fn next_task(
-    p: Processors,
-    ranks: &[u64; Jobs::LIMIT],
-    modes: &[u8; Jobs::LIMIT],
-    tasks: usize,
-) -> u8
+fn next_task(p: Processors, ranks: &Ranks, modes: &Modes, tasks: usize) -> u8
     ensures { λ r. ⌜ r ≡ nextTask p (jobsFrom (now (ranks .entry)) (firstModes tasks (now (modes .entry)))) ⌝ }
 {
     let n = end_of(tasks);
@@ -88,7 +80,8 @@ fn next_task(
     best
 }
 
-// `u` is linked to `k` and runs there; or, where it runs on `q`, to `q`, whose link moves to `k`.
+// `u` is linked to `k` and runs there; or, where it runs on `q`, it is linked to `q`, and the job linked to `q` moves
+// to `k`.
 fn fill(p: Processors, k: usize, u: u8, q: usize) -> Processors
     ensures { λ r. ⌜ r ≡ filling p k u q ⌝ }
 {
@@ -100,13 +93,8 @@ fn fill(p: Processors, k: usize, u: u8, q: usize) -> Processors
     }
 }
 
-fn refill(
-    p: Processors,
-    ranks: &[u64; Jobs::LIMIT],
-    modes: &[u8; Jobs::LIMIT],
-    tasks: usize,
-    k: usize,
-) -> Processors
+// Processor `k` has neither link nor job: the highest-priority unlinked runnable job, if any, is linked.
+fn refill(p: Processors, ranks: &Ranks, modes: &Modes, tasks: usize, k: usize) -> Processors
     ensures { λ r. ⌜ r ≡ refilling p (jobsFrom (now (ranks .entry)) (firstModes tasks (now (modes .entry)))) k ⌝ }
 {
     let u = next_task(p, ranks, modes, tasks);
@@ -117,13 +105,8 @@ fn refill(
     }
 }
 
-fn leave_from(
-    p: Processors,
-    ranks: &[u64; Jobs::LIMIT],
-    modes: &[u8; Jobs::LIMIT],
-    tasks: usize,
-    k: usize,
-) -> Processors
+// The job on processor `k` leaves it: if `k` is linked to another job, that one runs; else `k` is refilled.
+fn leave_from(p: Processors, ranks: &Ranks, modes: &Modes, tasks: usize, k: usize) -> Processors
     ensures { λ r. ⌜ r ≡ leavingFrom p (jobsFrom (now (ranks .entry)) (firstModes tasks (now (modes .entry)))) k ⌝ }
 {
     if is_awaited(p, k) {
@@ -133,15 +116,9 @@ fn leave_from(
     }
 }
 
-// The job of `t` has finished or is suspended, and the tables have it so: it leaves its processor. Of the `tasks`
-// tasks that there are one may come instead.
-pub fn leave(
-    p: Processors,
-    ranks: &[u64; Jobs::LIMIT],
-    modes: &[u8; Jobs::LIMIT],
-    tasks: usize,
-    t: u8,
-) -> Processors
+// The job of `t` has finished or is suspended; the tables have it so already. It leaves its processor, which may go
+// to another job of the first `tasks` tasks.
+pub fn leave(p: Processors, ranks: &Ranks, modes: &Modes, tasks: usize, t: u8) -> Processors
     ensures { λ r. ⌜ r ≡ leaving p (jobsFrom (now (ranks .entry)) (firstModes tasks (now (modes .entry)))) t ⌝ }
 {
     let k = run_of(p, t);
@@ -152,15 +129,9 @@ pub fn leave(
     }
 }
 
-// The priority of `t` is restored, and the tables have it so: a higher job of the `tasks` tasks may take its
-// processor.
-pub fn give_way(
-    p: Processors,
-    ranks: &[u64; Jobs::LIMIT],
-    modes: &[u8; Jobs::LIMIT],
-    tasks: usize,
-    t: u8,
-) -> Processors
+// The priority of `t` is restored; the tables have it so already. A higher job of the first `tasks` tasks may take
+// its processor.
+pub fn give_way(p: Processors, ranks: &Ranks, modes: &Modes, tasks: usize, t: u8) -> Processors
     ensures { λ r. ⌜ r ≡ givingWay p (jobsFrom (now (ranks .entry)) (firstModes tasks (now (modes .entry)))) t ⌝ }
 {
     let u = next_task(p, ranks, modes, tasks);

@@ -8,6 +8,7 @@ unfoldable pub first : (ℕ → Bool) → ℕ → ℕ → ℕ
 first ok k zero = k
 first ok k (suc n) = if ok k then k else first ok (suc k) n
 
+-- a truth value as one bit of a mask
 abbrev pub bit : Bool → ℕ
 bit b = if b then 1 else 0
 

@@ -1,4 +1,4 @@
--- The words in which tests are written. Each is a short name of what the library has.
+-- Short names, for writing tests, of what the library has.
 use Prim.Native.Nat.{ℕ}
 use mathlib.Core.Bool.{Bool, cond, not, _||_}
 use lib.Dec.{eqb}

@@ -2,7 +2,8 @@
 ghost use mathlib.Core.Path.{_≡_};
 ghost use Rattle.search.specs.Words.{if_then_else_};
 
-// One turn of a search from the last index to the first: `here` where the index passes, else what was found behind it.
+// One turn of a loop that searches from the last index to the first: `here` where this index passes, else `behind`,
+// what the later indices gave. So the first index that passes is what remains.
 pub fn pick(passes: bool, here: usize, behind: usize) -> usize
     ensures { λ r. ⌜ r ≡ (if passes then here else behind) ⌝ }
 {

@@ -1,4 +1,4 @@
--- Document 01, 'Numbers handed back': what a set-up is that no refusal meets, in the list's order.
+-- RULES.md, 'Numbers handed back': what holds of a set-up to which no refusal applies, in the list's order.
 use Prim.Native.Nat.{ℕ, _≤_, _<_}
 use mathlib.Core.Path.{_≡_}
 use mathlib.Core.Logic.{_≢_}
@@ -7,6 +7,7 @@ use Rattle.input.specs.Kinds.{short, long}
 use Rattle.input.specs.Words.{period, kind, outerOf, innerOf}
 use Rattle.input.specs.declared.Setup.{Setup}
 
+-- the set-up is free of 1 to 5
 pub record Accepted (c : Setup) : Type 0 where
   pub processors : (1 ≤ c .processors) × (c .processors ≤ mostProcessors)
   pub tasks : (1 ≤ c .tasks) × (c .tasks ≤ mostTasks)

@@ -1,4 +1,4 @@
--- Document 01, 'Set-up': places past a count are not read; here they are 0.
+-- RULES.md, 'Set-up': places past a count are not read; here they are 0.
 use Prim.Native.Nat.{ℕ}
 use mathlib.Core.Bool.{Bool, _&&_}
 use mathlib.Core.List.{List}
@@ -10,10 +10,11 @@ use Rattle.search.specs.Table.{table}
 use Rattle.numbers.specs.Limits.{mostTasks, mostResources, mostPairs}
 use Rattle.input.specs.declared.Setup.{Setup}
 
--- l's places below n, of `most`; the others 0
+-- `most` places, with those of l below n, and 0 in the others
 unfoldable pub below : ℕ → ℕ → List ℕ → List ℕ
 below n most l = table (λ i. if ltb i n then getD l i 0 else 0) most
 
+-- the set-up with every place past a count 0
 unfoldable pub cleared : Setup → Setup
 cleared c = record {
   processors = c .processors;
@@ -27,7 +28,7 @@ cleared c = record {
   inner = below (c .pairs) mostPairs (c .inner);
 }
 
--- l's places from n on, of `most`, are 0
+-- l's places from n on, below `most`, are 0
 unfoldable pub emptyFrom : ℕ → ℕ → List ℕ → Bool
 emptyFrom n most l = allBelow most (λ i. leb n i implies getD l i 0 is 0)
 

@@ -1,4 +1,4 @@
--- Document 01, 'Set-up': how groups come about, pair by pair. 'Groups' says what a name means.
+-- RULES.md, 'Set-up': how the names of groups are computed, pair by pair. specs/Groups says what a name means.
 use Prim.Native.Nat.{ℕ, zero, suc, min, max}
 use mathlib.Core.Bool.{Bool, _&&_}
 use mathlib.Core.List.{List, map}
@@ -10,10 +10,11 @@ use Rattle.numbers.specs.Limits.{mostResources, mostPairs, nothing}
 use Rattle.input.specs.Words.{kind, outerOf, innerOf}
 use Rattle.input.specs.declared.Setup.{Setup}
 
--- of two names the higher gives way to the lower
+-- a name after the groups named a and b are joined: the higher of the two gives way to the lower
 abbrev pub merged : ℕ → ℕ → ℕ → ℕ
 merged a b name = if name is max a b then min a b else name
 
+-- the names after the groups of resources a and b are joined
 abbrev pub joined : List ℕ → ℕ → ℕ → List ℕ
 joined names a b = map (merged (getD names a nothing) (getD names b nothing)) names
 
@@ -22,8 +23,7 @@ module _ (c : Setup) where
   abbrev pub areAlike : ℕ → ℕ → Bool
   areAlike a b = ltb a (c .resources) && ltb b (c .resources) && kind c a is kind c b
 
-  -- a pair of equal kinds puts both resources in one group; a pair that names a resource not in the table joins
-  -- nothing
+  -- pair i joins its resources: they are of equal kinds, and both are in the table
   abbrev pub isJoining : ℕ → Bool
   isJoining i = ltb i (c .pairs) && areAlike (outerOf c i) (innerOf c i)
 
@@ -36,6 +36,7 @@ module _ (c : Setup) where
   namesAfter zero = table (λ r. r) mostResources
   namesAfter (suc i) = joinedBy (namesAfter i) i
 
+  -- the name of each resource's group
   unfoldable pub names : List ℕ
   names = namesAfter mostPairs
 

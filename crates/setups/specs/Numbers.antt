@@ -1,5 +1,5 @@
--- Document 01, 'Numbers handed back': each number of a set-up is given exactly when its row is the first that
--- applies, and 0 when none does.
+-- RULES.md, 'Numbers handed back': each number of a set-up is given exactly when its row is the first that applies,
+-- and 0 when none does.
 use mathlib.Core.Path.{_≡_}
 use mathlib.Core.Logic.{_↔_}
 use Rattle.numbers.specs.Refusals.{countOutside, periodZero, kindUnknown, pairStray, longInShort}

@@ -1,4 +1,4 @@
--- Document 01, 'Numbers handed back': the refusals 1 to 5 of a set-up, in the list's order.
+-- RULES.md, 'Numbers handed back': the refusals 1 to 5 of a set-up, in the list's order.
 use Prim.Native.Nat.{ℕ}
 use mathlib.Core.Bool.{Bool, not, _&&_, _||_}
 use mathlib.Core.List.{List, []}
@@ -11,7 +11,7 @@ use Rattle.input.specs.Kinds.{short, long}
 use Rattle.input.specs.Words.{within, period, kind, outerOf, innerOf, someTask, someResource, somePair}
 use Rattle.input.specs.declared.Setup.{Setup}
 
--- a or b is not in a table of n, or the two are one
+-- a or b is not in a table of n places, or the two are the same
 abbrev pub isStrayPair : ℕ → ℕ → ℕ → Bool
 isStrayPair n a b = leb n a || leb n b || a is b
 
@@ -30,6 +30,7 @@ module _ (c : Setup) where
   abbrev pub isLongInShort : ℕ → Bool
   isLongInShort i = kind c (outerOf c i) is short && kind c (innerOf c i) is long
 
+  -- the list of 1 to 5
   unfoldable pub setupRows : List Row
   setupRows =
       countOutside when not inLimits otherwise
@@ -39,6 +40,6 @@ module _ (c : Setup) where
       longInShort when somePair c isLongInShort otherwise
       []
 
-  -- the first that applies, or 0
+  -- the first refusal that applies, or 0
   unfoldable pub setupRefusal : ℕ
   setupRefusal = firstOf setupRows

@@ -1,4 +1,4 @@
--- The lengths of a set-up's tables, which are known of every `Setup` of the code.
+-- The lengths of a set-up's tables, which every `Setup` of the code has by its type.
 use mathlib.Core.Path.{_≡_}
 use lib.ListN.{length}
 use Rattle.numbers.specs.Limits.{mostTasks, mostResources, mostPairs}

@@ -4,7 +4,7 @@ ghost use mathlib.Core.Path.{_≡_};
 ghost use lib.ListN.{length};
 ghost use Rattle.setups.specs.Clearing.{below, cleared, emptyFrom, isClear};
 
-// The places from `count` on become 0: one function for the tables of bytes, and one for the periods.
+// The places from `count` on become 0. For the tables of bytes; the periods are of another type.
 fn clear_from(table: &mut [u8], count: usize)
     ensures { λ _. ⌜ now (table .exit) ≡ below count (length (now (table .entry))) (now (table .entry)) ⌝ }
 {
@@ -13,6 +13,7 @@ fn clear_from(table: &mut [u8], count: usize)
     }
 }
 
+// The same for the periods.
 fn clear_periods_from(periods: &mut [u16], count: usize)
     ensures { λ _. ⌜ now (periods .exit) ≡ below count (length (now (periods .entry))) (now (periods .entry)) ⌝ }
 {
@@ -21,6 +22,7 @@ fn clear_periods_from(periods: &mut [u16], count: usize)
     }
 }
 
+// The set-up with every place past a count 0.
 pub fn clear(setup: Setup) -> Setup
     ensures { λ r. ⌜ r ≡ cleared setup ⌝ }
 {
@@ -40,7 +42,7 @@ pub fn clear(setup: Setup) -> Setup
     next
 }
 
-// The places from `count` on are 0.
+// The places from `count` on are 0. For the tables of bytes.
 fn is_empty_from(table: &[u8], count: usize) -> bool
     ensures { λ r. ⌜ r ≡ emptyFrom count (length (now (table .entry))) (now (table .entry)) ⌝ }
 {
@@ -51,6 +53,7 @@ fn is_empty_from(table: &[u8], count: usize) -> bool
     empty
 }
 
+// The same for the periods.
 fn has_no_period_from(periods: &[u16], count: usize) -> bool
     ensures { λ r. ⌜ r ≡ emptyFrom count (length (now (periods .entry))) (now (periods .entry)) ⌝ }
 {

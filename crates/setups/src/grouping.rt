@@ -9,7 +9,7 @@ ghost use Rattle.search.specs.Table.{table};
 ghost use Rattle.numbers.specs.Limits.{mostResources, mostPairs, nothing};
 ghost use Rattle.setups.specs.Naming.{merged, joined, areAlike, isJoining, joinedBy, names};
 
-// What a table by resource has for `r`, as the name of its group; nothing past the table.
+// The entry of resource `r` in a table by resource, such as the name of its group; `Limit::NOTHING` past the table.
 pub fn named_at(names: [u8; Setup::RESOURCES], r: u8) -> u8
     ensures { λ n. ⌜ n ≡ getD names r nothing ⌝ }
 {
@@ -21,6 +21,7 @@ pub fn named_at(names: [u8; Setup::RESOURCES], r: u8) -> u8
     }
 }
 
+// A name after the groups named `a` and `b` are joined.
 fn merge(a: u8, b: u8, name: u8) -> u8
     ensures { λ r. ⌜ r ≡ merged a b name ⌝ }
 {
@@ -29,6 +30,7 @@ fn merge(a: u8, b: u8, name: u8) -> u8
     if name == high { low } else { name }
 }
 
+// The names after the groups of `outer` and `inner` are joined.
 fn join(names: [u8; Setup::RESOURCES], outer: u8, inner: u8) -> [u8; Setup::RESOURCES]
     ensures { λ r. ⌜ r ≡ joined names outer inner ⌝ }
 {
@@ -41,6 +43,7 @@ fn join(names: [u8; Setup::RESOURCES], outer: u8, inner: u8) -> [u8; Setup::RESO
     next
 }
 
+// Before any pair: each resource is a group alone, named by itself.
 fn each_alone() -> [u8; Setup::RESOURCES]
     ensures { λ r. ⌜ r ≡ table (λ i. i) mostResources ⌝ }
 {
@@ -59,6 +62,7 @@ fn are_alike(setup: Setup, a: u8, b: u8) -> bool
     inside & (kind_of(setup, a) == kind_of(setup, b))
 }
 
+// Pair `i` joins its resources.
 fn is_joining(setup: Setup, i: usize) -> bool
     requires { ⌜ i < mostPairs ⌝ }
     ensures { λ r. ⌜ r ≡ isJoining setup i ⌝ }
@@ -66,7 +70,7 @@ fn is_joining(setup: Setup, i: usize) -> bool
     (i < setup.pairs) & are_alike(setup, setup.outer[i], setup.inner[i])
 }
 
-// The names after one pair more.
+// The names after pair `i`, from those before it.
 fn join_pair(setup: Setup, names: [u8; Setup::RESOURCES], i: usize) -> [u8; Setup::RESOURCES]
     requires { ⌜ i < mostPairs ⌝ }
     ensures { λ r. ⌜ r ≡ joinedBy setup names i ⌝ }

@@ -9,6 +9,7 @@ ghost use Rattle.input.specs.Kinds.{long};
 ghost use Rattle.input.specs.Words.{period, kind, someTask, someResource, somePair};
 ghost use Rattle.setups.specs.Refusals.{inLimits, isStrayPair, isStray, isLongInShort, setupRefusal};
 
+// Every count is within its limits.
 fn is_in_limits(setup: Setup) -> bool
     ensures { λ r. ⌜ r ≡ inLimits setup ⌝ }
 {
@@ -17,6 +18,7 @@ fn is_in_limits(setup: Setup) -> bool
     processors & tasks & (setup.resources <= Setup::RESOURCES) & (setup.pairs <= Setup::PAIRS)
 }
 
+// Some task has the period 0.
 fn has_zero_period(setup: Setup) -> bool
     ensures { λ r. ⌜ r ≡ someTask setup (λ t. period setup t is 0) ⌝ }
 {
@@ -27,6 +29,7 @@ fn has_zero_period(setup: Setup) -> bool
     some
 }
 
+// Some resource is neither short nor long.
 fn has_other_kind(setup: Setup) -> bool
     ensures { λ r. ⌜ r ≡ someResource setup (λ r. ltb long (kind setup r)) ⌝ }
 {
@@ -56,6 +59,7 @@ fn is_stray(resources: usize, a: u8, b: u8) -> bool
     (resources <= a as usize) | (resources <= b as usize) | (a == b)
 }
 
+// Some pair names a resource not in the table, or one resource twice.
 fn has_stray_pair(setup: Setup) -> bool
     ensures { λ r. ⌜ r ≡ somePair setup (isStray setup) ⌝ }
 {
@@ -67,6 +71,7 @@ fn has_stray_pair(setup: Setup) -> bool
     some
 }
 
+// Some pair puts a long inside a short.
 fn has_long_in_short(setup: Setup) -> bool
     ensures { λ r. ⌜ r ≡ somePair setup (isLongInShort setup) ⌝ }
 {
@@ -79,8 +84,7 @@ fn has_long_in_short(setup: Setup) -> bool
     some
 }
 
-// The first refusal that applies, or 0. The rows come from the last to the first, as each needs what the later ones
-// give.
+// The first refusal that applies, or 0. The rows go from the last to the first: see `numbers::row`.
 pub fn judge_setup(setup: Setup) -> u8
     ensures { λ r. ⌜ r ≡ setupRefusal setup ⌝ }
 {

@@ -1,4 +1,4 @@
-// What is asked of a set-up: its refusals, its places past the counts, and the groups of its resources.
+// What is required of a set-up: its refusals, its places past the counts, and the groups of its resources.
 mod clearing;
 mod grouping;
 mod judging;

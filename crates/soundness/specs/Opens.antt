@@ -1,4 +1,5 @@
--- What the clauses of the open requests and of the queues say of one place, over the small tables that the code reads.
+-- What the clauses of the open requests and of the queues say of one place, over the small tables that the code
+-- reads.
 use Prim.Native.Nat.{ℕ}
 use mathlib.Core.Bool.{Bool, _&&_}
 use mathlib.Core.List.{List}
@@ -22,7 +23,7 @@ isOnce requests depth i = allBelow depth (λ k. getD requests i nothing is getD 
 abbrev pub isLong : List ℕ → List ℕ → ℕ → Bool
 isLong kinds requests i = getD kinds (getD requests i nothing) 0 is long
 
--- resources a and b, where they are of one kind, are in one group
+-- resources a and b are in one group if they are of one kind
 abbrev pub areTogether : List ℕ → List ℕ → ℕ → ℕ → Bool
 areTogether kinds groups a b = getD kinds a 0 is getD kinds b 0 implies getD groups a nothing is getD groups b nothing
 
@@ -31,6 +32,6 @@ abbrev pub isTogether : List ℕ → List ℕ → List ℕ → ℕ → ℕ → B
 isTogether kinds groups requests depth i =
     allBelow depth (λ k. areTogether kinds groups (getD requests i nothing) (getD requests k nothing))
 
--- task t waits, and for what is in group g
+-- task t waits, and for a resource of group g
 abbrev pub waitsIn : List ℕ → List ℕ → List ℕ → ℕ → ℕ → Bool
 waitsIn stands asked groups g t = leb spinning (getD stands t absent) && getD groups (getD asked t nothing) nothing is g

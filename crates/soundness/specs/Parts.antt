@@ -21,8 +21,8 @@ frameSound s =
     setupRefusal (s .setup) is 0 && isClear (s .setup)
     && clockSound (s .setup) s && allBelow mostTasks (timesSound (s .setup) s)
 
--- where they hold, the ranks and modes that the code computes are the rule's, whatever the depths and queues; known
--- from the types: how long the table of tasks is, and that a period has two bytes
+-- where these hold, what the code computes for the scheduler is the rule's `jobs`, whatever the depths and queues.
+-- The types give the other two conditions: the length of the table of tasks, and periods of two bytes.
 abbrev pub ViewIsRuled : Type 0
 ViewIsRuled =
     (s : State) → length (s .tasks) ≡ mostTasks → ((t : ℕ) → period (s .setup) t < 65536) → frameSound s ≡ true

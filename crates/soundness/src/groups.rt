@@ -8,9 +8,8 @@ use protocol::State;
 use protocol::Task;
 use queue::Queue;
 ghost use mathlib.Core.Path.{_≡_};
-ghost use mathlib.Core.Bool.{true, _&&_};
+ghost use mathlib.Core.Bool.{true};
 ghost use Prim.Native.Nat.{ℕ, _≤_};
-ghost use lib.Dec.{leb};
 ghost use lib.ListN.{getD};
 ghost use Rattle.search.specs.Words.{_is_};
 ghost use Rattle.search.specs.Below.{allBelow, anyBelow};
@@ -18,7 +17,7 @@ ghost use Rattle.queue.specs.Limits.{capacity};
 ghost use Rattle.queue.specs.Waiting.{waiter, placeOf};
 ghost use Rattle.numbers.specs.Limits.{mostTasks, mostResources, mostRequests, nothing};
 ghost use Rattle.setups.specs.Naming.{names};
-ghost use Rattle.protocol.specs.Words.{absent, spinning, stand, task as taskRecord, group as groupRecord, asked as askedBy};
+ghost use Rattle.protocol.specs.Words.{absent, stand, task as taskRecord, group as groupRecord, asked as askedBy};
 ghost use Rattle.protocol.specs.Sound.{requestsSound, groupSound};
 ghost use Rattle.soundness.specs.Opens.{waitsIn};
 
@@ -39,7 +38,7 @@ fn some_in(
     some
 }
 
-// All that wait in the queue wait, and for what is in group `g`.
+// Every task in the queue waits, and for a resource of group `g`.
 fn all_wait_here(
     stands: [u8; Setup::TASKS],
     asked: [u8; Setup::TASKS],
@@ -60,7 +59,7 @@ fn all_wait_here(
     ok
 }
 
-// Each place of the queue is the first of its task.
+// No task is in the queue twice: each place is the first of its task.
 fn all_in_place(queue: Queue) -> bool
     requires { ⌜ queue .len ≤ capacity ⌝ }
     ensures { λ r. ⌜ r ≡ allBelow (queue .len) (λ i. placeOf queue (waiter queue i) is i) ⌝ }
@@ -72,7 +71,8 @@ fn all_in_place(queue: Queue) -> bool
     ok
 }
 
-// Group `g` by its record, that of its holder, the groups' names, and how the tasks stand and what they asked for.
+// The clauses of group `g`, from its record, its holder's record, the groups' names, and each task's standing number
+// and resource asked for.
 fn group_holds(
     group: Group,
     task: Task,
@@ -99,6 +99,7 @@ fn group_holds(
     }
 }
 
+// The clauses of every group.
 pub fn all_groups(state: State, naming: [u8; Setup::RESOURCES]) -> bool
     requires { ⌜ (naming ≡ names (state .setup)) × (allBelow mostTasks (requestsSound (state .setup) state) ≡ true) ⌝ }
     ensures { λ r. ⌜ r ≡ allBelow mostResources (groupSound (state .setup) state) ⌝ }

@@ -4,9 +4,8 @@ use protocol::State;
 use protocol::Task;
 use queue::Queue;
 ghost use mathlib.Core.Path.{_≡_};
-ghost use mathlib.Core.Bool.{_&&_};
 ghost use Prim.Native.Nat.{ℕ, _≤_};
-ghost use lib.Dec.{leb, ltb};
+ghost use lib.Dec.{leb};
 ghost use lib.ListN.{getD};
 ghost use Rattle.search.specs.Words.{_is_, _implies_};
 ghost use Rattle.search.specs.Below.{allBelow};
@@ -40,7 +39,7 @@ fn all_held(
     ok
 }
 
-// The request at place `i` stands at no other place.
+// The request at place `i` is at no other place.
 fn is_once(requests: [u8; Task::REQUESTS], depth: usize, i: usize) -> bool
     requires { ⌜ depth ≤ mostRequests ⌝ }
     ensures { λ r. ⌜ r ≡ isOnce requests depth i ⌝ }
@@ -53,6 +52,7 @@ fn is_once(requests: [u8; Task::REQUESTS], depth: usize, i: usize) -> bool
     ok
 }
 
+// Every open request is at one place only.
 fn all_once(requests: [u8; Task::REQUESTS], depth: usize) -> bool
     requires { ⌜ depth ≤ mostRequests ⌝ }
     ensures { λ r. ⌜ r ≡ allBelow depth (isOnce requests depth) ⌝ }
@@ -76,6 +76,7 @@ fn longs_before(kinds: [u8; Setup::RESOURCES], requests: [u8; Task::REQUESTS], i
     ok
 }
 
+// The long requests come before the short ones.
 fn all_longs_first(
     kinds: [u8; Setup::RESOURCES],
     requests: [u8; Task::REQUESTS],
@@ -114,6 +115,7 @@ fn is_together(
     ok
 }
 
+// The requests of one kind are in one group.
 fn all_together(
     kinds: [u8; Setup::RESOURCES],
     groups: [u8; Setup::RESOURCES],
@@ -130,7 +132,8 @@ fn all_together(
     ok
 }
 
-// Task `t` by its record, the kinds and the number of the resources, the names of their groups and who holds each.
+// The clauses of the open requests of task `t`, from its record, the kinds and the count of the resources, the names
+// of their groups and the holder of each.
 fn requests_hold(
     task: Task,
     kinds: [u8; Setup::RESOURCES],
@@ -161,6 +164,7 @@ fn requests_hold(
     }
 }
 
+// The clauses of the open requests of every task.
 pub fn all_requests(
     state: State,
     groups: [u8; Setup::RESOURCES],
@@ -180,8 +184,8 @@ pub fn all_requests(
     ok
 }
 
-// Task `t`, where it waits, by its record, how it stands, what it asked for, the queue there, and the kinds and the
-// number of the resources.
+// The clauses of the waiting job of task `t`, from its record, its standing's number, the resource asked for, the
+// queue there, and the kinds and the count of the resources.
 fn waiting_holds(
     task: Task,
     stand: u8,
@@ -205,6 +209,7 @@ fn waiting_holds(
     right & stands & apart & ((stand != Task::SUSPENDED) | (depth == 0)) & (depth < Task::REQUESTS)
 }
 
+// The clauses of every waiting job.
 pub fn all_waiting(state: State, groups: [u8; Setup::RESOURCES]) -> bool
     requires { ⌜ groups ≡ names (state .setup) ⌝ }
     ensures { λ r. ⌜ r ≡ allBelow mostTasks (waitingSound (state .setup) state) ⌝ }

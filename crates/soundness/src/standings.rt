@@ -1,4 +1,4 @@
-// Small tables of numbers, read off the records once.
+// Small tables of numbers, read from the records once.
 use input::Setup;
 use numbers::Limit;
 use protocol::Task;
@@ -21,7 +21,7 @@ pub fn stand_at(stands: [u8; Setup::TASKS], t: u8) -> u8
     }
 }
 
-// What each task's job asked for, or nothing.
+// The resource that each task's waiting job asked for, or nothing.
 pub fn asked_of(tasks: [Task; Setup::TASKS]) -> [u8; Setup::TASKS]
     ensures { λ r. ⌜ r ≡ table (λ t. askedOf (getD tasks t noTask .standing)) mostTasks ⌝ }
 {

@@ -1,4 +1,4 @@
-// Times, totals and empty places of each task.
+// The times, totals and empty places of each task.
 use input::Setup;
 use numbers::Limit;
 use protocol::State;
@@ -14,6 +14,7 @@ ghost use Rattle.input.specs.Words.{dueAt};
 ghost use Rattle.protocol.specs.Words.{sum, task as taskRecord};
 ghost use Rattle.protocol.specs.Sound.{timesSound, emptySound};
 
+// The sum of a task's totals, in 64 bits, where it cannot overflow.
 fn sum_of(totals: [u32; Task::TOTALS]) -> u64
     ensures { λ r. ⌜ r ≡ sum totals ⌝ }
 {
@@ -24,6 +25,7 @@ fn sum_of(totals: [u32; Task::TOTALS]) -> u64
     all
 }
 
+// The ticks from the start to the clock; 0 if the clock is before the start.
 fn elapsed(start: u32, clock: u32) -> u64
     ensures { λ r. ⌜ r ≡ clock - start ⌝ }
 {
@@ -34,7 +36,8 @@ fn elapsed(start: u32, clock: u32) -> u64
     }
 }
 
-// A task by its record and the deadline that its last arrival gives, in any state with this start and this clock.
+// The clauses of the times and totals of a task, from its record and the deadline that its last arrival gives, in any
+// state with this start and this clock.
 fn times_hold(task: Task, due: u64, start: u32, clock: u32) -> bool
     ensures { λ r. ⌜ ((s : State) (t : ℕ) → task ≡ taskRecord s t → due ≡ dueAt (s .setup) t (task .last)
         → start ≡ s .setup .start → clock ≡ s .clock → r ≡ timesSound (s .setup) s t) ⌝ }
@@ -48,6 +51,7 @@ fn times_hold(task: Task, due: u64, start: u32, clock: u32) -> bool
     between & dated & undated & (sum_of(totals) <= elapsed(start, clock))
 }
 
+// The clauses of the times and totals of every task.
 pub fn all_times(state: State) -> bool
     ensures { λ r. ⌜ r ≡ allBelow mostTasks (timesSound (state .setup) state) ⌝ }
 {
@@ -72,7 +76,7 @@ fn requests_end(requests: [u8; Task::REQUESTS], depth: usize) -> bool
     ok
 }
 
-// `past`: the set-up has no such task.
+// The clauses of the empty places of a task, from its record; `past` says that the set-up has no such task.
 fn empty_holds(task: Task, past: bool) -> bool
     ensures { λ r. ⌜ ((s : State) (t : ℕ) → task ≡ taskRecord s t → past ≡ leb (s .setup .tasks) t
         → r ≡ emptySound (s .setup) s t) ⌝ }
@@ -85,6 +89,7 @@ fn empty_holds(task: Task, past: bool) -> bool
     requests_end(requests, task.depth) & (!past | unused)
 }
 
+// The clauses of the empty places of every task.
 pub fn all_empty(state: State) -> bool
     ensures { λ r. ⌜ r ≡ allBelow mostTasks (emptySound (state .setup) state) ⌝ }
 {

@@ -1,4 +1,4 @@
-// The sound state.
+// The test of the sound state, in three parts.
 use crate::Tested;
 use crate::groups::all_groups;
 use crate::requests::all_requests;
@@ -13,7 +13,7 @@ ghost use Rattle.setups.specs.Naming.{names};
 ghost use Rattle.protocol.specs.Sound.{sound};
 ghost use Rattle.soundness.specs.Parts.{frameSound, locksSound, placementSound};
 
-// The set-up, the clock and the times.
+// The set-up, the clock and the times. That the clock is at most its end needs no test, as it has 32 bits.
 fn frame_holds(state: State) -> bool
     ensures { λ r. ⌜ r ≡ frameSound state ⌝ }
 {
@@ -24,7 +24,8 @@ fn frame_holds(state: State) -> bool
         & all_times(state)
 }
 
-// The open requests, the waiting jobs and the groups, which are `naming`.
+// The open requests, the waiting jobs and the groups; `naming` has the groups' names. `all_groups` relies on the
+// clauses of the requests, so they are tested first.
 fn locks_hold(state: State, naming: [u8; Setup::RESOURCES]) -> bool
     requires { ⌜ naming ≡ names (state .setup) ⌝ }
     ensures { λ r. ⌜ r ≡ locksSound state ⌝ }
@@ -38,8 +39,8 @@ fn locks_hold(state: State, naming: [u8; Setup::RESOURCES]) -> bool
     }
 }
 
-// Links and placements. The ranks are the rule's only within their bounds, which the set-up, the clock and the times
-// see to.
+// Links and placements. The ranks are the rule's only within their bounds, which a sound set-up, clock and times
+// ensure.
 fn placement_holds(state: State) -> bool
     requires { ⌜ frameSound state ≡ true ⌝ }
     ensures { λ r. ⌜ r ≡ placementSound state ⌝ }
@@ -53,7 +54,7 @@ fn placement_holds(state: State) -> bool
     (p.count == setup.processors) & placement::is_placed(p, jobs)
 }
 
-// Every clause; the groups are `naming`.
+// Every clause; `naming` has the groups' names.
 fn all_hold(state: State, naming: [u8; Setup::RESOURCES]) -> bool
     requires { ⌜ naming ≡ names (state .setup) ⌝ }
     ensures { λ r. ⌜ r ≡ sound state ⌝ }
@@ -69,7 +70,7 @@ fn all_hold(state: State, naming: [u8; Setup::RESOURCES]) -> bool
     }
 }
 
-// The test, and the names that it was made with.
+// Tests a state, and returns the groups' names too, so that they are not computed again.
 pub fn test(state: State) -> Tested
     ensures { λ r. ⌜ r ≡ record { passes = sound state; naming = names (state .setup) } ⌝ }
 {
@@ -81,6 +82,7 @@ pub fn test(state: State) -> Tested
     }
 }
 
+// Whether a state is sound.
 pub fn is_sound(state: State) -> bool
     ensures { λ r. ⌜ r ≡ sound state ⌝ }
 {

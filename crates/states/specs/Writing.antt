@@ -6,7 +6,7 @@ use Rattle.numbers.specs.Limits.{mostProcessors}
 use Rattle.processors.specs.Words.{link, runs}
 use Rattle.processors.specs.declared.Processors.{Processors}
 
--- its bytes: the answer, and per processor the linked and the running task
+-- the bytes of a snapshot: the answer, and for each processor the linked and the running task
 abbrev pub snapshotSize : ℕ
 snapshotSize = 1 + 2 * mostProcessors
 
@@ -15,10 +15,11 @@ unfoldable pub places : Processors → ℕ → List ℕ
 places p zero = []
 places p (suc k) = places p k ++ (link p k ∷ runs p k ∷ [])
 
+-- the snapshot of an event with this answer, after which the processors are p
 unfoldable pub snapshotOf : ℕ → Processors → List ℕ
 snapshotOf answer p = answer ∷ places p mostProcessors
 
--- the buffer with a text written from a place on
+-- the buffer with a text written from place `at` on
 unfoldable pub written : List ℕ → ℕ → List ℕ → List ℕ
 written bytes at [] = bytes
 written bytes at (x ∷ text) = written (set bytes at x) (suc at) text

@@ -1,4 +1,4 @@
-// What a set-up gives.
+// The state that a set-up begins with.
 use crate::records::no_group;
 use crate::records::no_task;
 use input::Setup;
@@ -10,7 +10,7 @@ ghost use mathlib.Core.Path.{_≡_};
 ghost use Rattle.protocol.specs.Events.{fresh as freshState, begin as beginRule};
 ghost use Rattle.input.specs.Words.{noSetup};
 
-// Nobody has arrived.
+// The state of a set-up before any event: nobody has arrived.
 fn fresh(setup: Setup) -> State
     ensures { λ r. ⌜ r ≡ freshState setup ⌝ }
 {
@@ -28,14 +28,14 @@ fn fresh(setup: Setup) -> State
     }
 }
 
-// The empty state: no processors.
+// The empty state, that of no set-up.
 pub fn empty() -> State
     ensures { λ r. ⌜ r ≡ freshState noSetup ⌝ }
 {
     fresh(Setup::none())
 }
 
-// The state that a set-up gives; a refused one gives an empty state.
+// The answer to a set-up, and the state that it begins with; a refused one gives the empty state.
 pub fn begin(setup: Setup) -> Reply
     ensures { λ r. ⌜ r ≡ beginRule setup ⌝ }
 {

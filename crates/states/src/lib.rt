@@ -1,5 +1,5 @@
-// What is read off a state: its records and tables at any place, past their ends too; situations, totals and
-// snapshots; and the state that a set-up gives.
+// What is read from a state: its records and tables at any place, past their ends too; situations, totals and
+// snapshots; and the state that a set-up begins with.
 mod beginning;
 mod lookups;
 mod reading;

@@ -13,7 +13,8 @@ ghost use Rattle.input.specs.Words.{dueAt};
 ghost use Rattle.numbers.specs.Limits.{mostResources, mostRequests, nothing};
 ghost use Rattle.states.specs.Holders.{holderIn};
 
-// What a table by task has for `t`, as the resource that its job asked for; nothing past the table.
+// The entry of task `t` in a table by task, such as the resource that its job asked for; `Limit::NOTHING` past the
+// table.
 pub fn number_at(numbers: [u8; Setup::TASKS], t: u8) -> u8
     ensures { λ r. ⌜ r ≡ getD numbers t nothing ⌝ }
 {
@@ -25,7 +26,7 @@ pub fn number_at(numbers: [u8; Setup::TASKS], t: u8) -> u8
     }
 }
 
-// The request at place `i` of a task's; nothing past them.
+// The request at place `i` of a task's requests; `Limit::NOTHING` past them.
 pub fn request_at(requests: [u8; Task::REQUESTS], i: usize) -> u8
     ensures { λ r. ⌜ r ≡ getD requests i nothing ⌝ }
 {
@@ -60,7 +61,8 @@ pub fn kind_at(kinds: [u8; Setup::RESOURCES], r: u8) -> u8
     if i < Setup::RESOURCES { kinds[i] } else { 0 }
 }
 
-// How many places of `depth` open requests to read: each from the limit on reads nothing, so one of those is enough.
+// How many places to read of `depth` open requests, which may be any number: each place from the limit on reads
+// nothing, so one of those is enough.
 fn read_requests(depth: usize) -> usize
     ensures { λ r. ⌜ r ≡ min depth (suc mostRequests) ⌝ }
 {
@@ -87,7 +89,7 @@ pub fn has_kind(
     some
 }
 
-// Who holds each group.
+// The holder of each group, or nobody.
 pub fn holders_of(groups: [Group; Setup::RESOURCES]) -> [u8; Setup::RESOURCES]
     ensures { λ r. ⌜ r ≡ table (holderIn groups) mostResources ⌝ }
 {

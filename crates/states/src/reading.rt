@@ -1,4 +1,4 @@
-// What is read off a state: situations, totals, links and placements.
+// What is read from a state: situations, totals, links and placements.
 use crate::records::task_at;
 use crate::standings::situation_of;
 use crate::standings::stand_of;
@@ -13,7 +13,7 @@ ghost use Rattle.protocol.specs.Words.{task as taskRecord};
 ghost use Rattle.protocol.specs.Situations.{situation as situationRule};
 ghost use Rattle.states.specs.Writing.{snapshotOf};
 
-// The number of the standing and the place of task `t` as one.
+// What the job of task `t` is doing.
 pub fn situation(state: State, t: u8) -> Situation
     ensures { λ r. ⌜ r ≡ situationRule state t ⌝ }
 {
@@ -33,7 +33,7 @@ pub fn totals_of(state: State, t: u8) -> [u32; Task::TOTALS]
     counted.totals
 }
 
-// The task that processor `k` is linked to, and the task that runs there, or nobody.
+// The task that processor `k` is linked to, or nobody.
 pub fn linked_to(state: State, k: usize) -> u8
     ensures { λ r. ⌜ r ≡ link (state .processors) k ⌝ }
 {
@@ -41,6 +41,7 @@ pub fn linked_to(state: State, k: usize) -> u8
     processors::link_at(p, k)
 }
 
+// The task that processor `k` runs, or nobody.
 pub fn running_on(state: State, k: usize) -> u8
     ensures { λ r. ⌜ r ≡ runs (state .processors) k ⌝ }
 {
@@ -48,7 +49,7 @@ pub fn running_on(state: State, k: usize) -> u8
     processors::runs_at(p, k)
 }
 
-// The snapshot after an event: its answer, and per processor the linked and the running task.
+// The snapshot of an event: its answer, and for each processor the linked and the running task after it.
 pub fn snapshot_of(answer: u8, p: Processors) -> [u8; Reply::SNAPSHOT]
     ensures { λ r. ⌜ r ≡ snapshotOf answer p ⌝ }
 {

@@ -1,4 +1,4 @@
-// The record of no task and of no group, and what is at a place of a table of records, past the table too.
+// The records of no task and of no group, and the record at any place of a table, past its end too.
 use input::Setup;
 use numbers::Limit;
 use protocol::Group;
@@ -9,6 +9,7 @@ ghost use mathlib.Core.Path.{_≡_};
 ghost use lib.ListN.{getD};
 ghost use Rattle.protocol.specs.Records.{noTask, noGroup, withStanding};
 
+// The record of no task: no job, no request, totals 0.
 pub fn no_task() -> Task
     ensures { λ r. ⌜ r ≡ noTask ⌝ }
 {
@@ -23,6 +24,7 @@ pub fn no_task() -> Task
     }
 }
 
+// The record of no group: no holder, and an empty queue.
 pub fn no_group() -> Group
     ensures { λ r. ⌜ r ≡ noGroup ⌝ }
 {
@@ -32,7 +34,7 @@ pub fn no_group() -> Group
     }
 }
 
-// The record of task `t`, or that of no task.
+// The record of task `t`; past the table, that of no task.
 pub fn task_at(tasks: [Task; Setup::TASKS], t: u8) -> Task
     ensures { λ r. ⌜ r ≡ getD tasks t noTask ⌝ }
 {

@@ -14,6 +14,7 @@ ghost use Rattle.protocol.specs.Words.{standingNo, askedOf};
 ghost use Rattle.protocol.specs.Records.{noTask};
 ghost use Rattle.protocol.specs.Situations.{situationOf};
 
+// The number of a standing.
 pub fn stand_of(standing: Standing) -> u8
     ensures { λ r. ⌜ r ≡ standingNo standing ⌝ }
 {
@@ -27,7 +28,7 @@ pub fn stand_of(standing: Standing) -> u8
     }
 }
 
-// The numbers of the tasks' standings.
+// The number of each task's standing.
 pub fn stands_of(tasks: [Task; Setup::TASKS]) -> [u8; Setup::TASKS]
     ensures { λ r. ⌜ r ≡ table (λ t. standingNo (getD tasks t noTask .standing)) mostTasks ⌝ }
 {

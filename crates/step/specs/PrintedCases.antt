@@ -1,5 +1,5 @@
--- The printed case of document 01, from the bytes of its file to its text, computed: so the theorems of accepted files
--- speak of something, and this text is what they say.
+-- RULES.md, 'The worked cases': the printed case, computed from the bytes of its file to its text. So the theorems
+-- about accepted files are not empty: this file is one, and this text is what they say of it.
 use Prim.Native.Nat.{ℕ, zero, suc, _<_}
 use mathlib.Core.Path.{_≡_, refl}
 use mathlib.Core.List.{List, [], _∷_, _++_}
@@ -52,11 +52,13 @@ eventBytes =
     ∷ 2 ∷ 2 ∷ 0 ∷ 0 ∷ 12 ∷ 0
     ∷ []
 
+-- the file: each block with its filler and its check
 abbrev pub printedBytes : List ℕ
 printedBytes =
     setupBytes ++ replicate 490 0 ++ (93 ∷ 5 ∷ 247 ∷ 65 ∷ [])
     ++ eventBytes ++ replicate 456 0 ++ (48 ∷ 16 ∷ 241 ∷ 141 ∷ [])
 
+-- the text
 pub printed-case : fileText (blocksOf printedBytes)
     ≡ codes "processors 2 tasks 3 start 65530\n"
     ++ codes "1 0 0/0 -/-\n"
@@ -73,7 +75,7 @@ pub printed-case : fileText (blocksOf printedBytes)
 unfolding allBelow anyBelow first best better table waiting queued empty appended movedUp withoutFirst placeOf tidyAt isTidy rankOf modeOf linkOf runOf noneLinked lowestFree lowestLinked displacing arrivingOn taken linking becomingPreemptable nextTask filling refilling leavingFrom leaving givingWay isPlaced setupRows setupRefusal joinedBy namesAfter names groupOf below cleared emptyFrom isClear fieldsOf stand asked deadline depth request holder len waiter own leastOf longHeld effective shortOpen jobs situation clockSound timesSound requestsSound waitingSound groupSound emptySound sound misplaced eventRows judge openOfKind opens enqueues closes frees dequeues passes arrives leaves becomesPreemptable givesWay arriveEvent finishEvent requestEvent completeEvent charged act stepBy step fresh begin startIn periodsIn kindsIn sideIn setupIn eventIn eventCount runBy run sums isChecked isBlank isSetupFilled isEventFilled blockRows verdict digits eachText firstText taskText taskLineText blockText setupText blocksOf eventsFrom answerText endText fileText
 printed-case = refl
 
--- its two blocks and its set-up are accepted, so the theorem of accepted files speaks of it
+-- its two blocks and its set-up are accepted, so the theorem about accepted files speaks of it
 pub record Computed : Type 0 where
   pub two : length (blocksOf printedBytes) ≡ 2
   pub opens : refusalOf (firstBlock (blocksOf printedBytes)) 0 ≡ 0
@@ -89,5 +91,6 @@ follows zero l = computed .opens
 follows (suc zero) l = computed .second
 follows (suc (suc i)) l = absurd (omega (arith, computed .two))
 
+-- the file is accepted
 pub printed-accepted : Accepted (blocksOf printedBytes)
 printed-accepted = record { begins = record { opens = computed .opens; setup = computed .setup }; follow = follows }

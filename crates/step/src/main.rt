@@ -13,13 +13,13 @@ struct Taken {
     over: bool,
 }
 
-// Whether the input cannot be read. At its end it can.
+// Whether the input cannot be read any more. At its end it still can.
 fn is_unreadable() -> bool {
     let mut byte = [0u8; 1];
     libc::read(STDIN_FILENO, &mut byte) < 0
 }
 
-// Writes a page, of which the session after it says whether something was refused; gives whether the work ends.
+// Writes a page; the session after it says whether something was refused. Returns whether the work ends.
 fn write_page(text: &[u8], session: Session) -> bool {
     if !io::write_all(STDOUT_FILENO, text) {
         io::write_all(STDERR_FILENO, b"not written\n");
@@ -31,8 +31,8 @@ fn write_page(text: &[u8], session: Session) -> bool {
     session.over
 }
 
-// Reads the next block, writes the page of what came, and gives the session after it. A short block is the last one,
-// so that a byte read behind it is none of the next.
+// Reads the next block, writes its page, and returns the session after it. A short block is the last one, so the byte
+// that `is_unreadable` reads after it belongs to no other block.
 fn take_block(session: Session, block: &mut [u8], out: &mut [u8]) -> Taken {
     let got = io::read_full(STDIN_FILENO, block);
     if got < block.len() && is_unreadable() {
@@ -56,7 +56,7 @@ fn main() {
     let mut out = [0u8; Page::LIMIT];
     let mut session = pages::begin();
     let mut over = false;
-    // One block more than there may be, and the input's end.
+    // One block more than a file may have, and the input's end.
     let mut left = Block::LAST_INDEX + 3;
     while left > 0 && !over {
         let taken = take_block(session, &mut block, &mut out);

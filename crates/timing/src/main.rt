@@ -1,9 +1,9 @@
-// What single calls take: standard input has a block file and orders for calls, standard output tells what came of
+// What single calls take: standard input has a block file and orders for calls, and standard output has the result of
 // each order. bench/run times it with many calls and with none.
 //
 // The input: one byte, how many blocks of events are played first; the block of the set-up; those blocks; the block
 // that the calls are about; then orders, three bytes each, up to the input's end: what is called, and how many
-// hundred times, low byte first.
+// hundred times, little-endian.
 use blocks::Block;
 use libc::STDIN_FILENO;
 use libc::STDOUT_FILENO;
@@ -13,7 +13,8 @@ ghost use lib.ListN.{length};
 ghost use mathlib.Core.Path.{_≡_};
 ghost use Rattle.blocks.specs.Sizes.{blockSize};
 
-// What is called, as an order says it: a step, a sound test, or a block's check. Anything else is nothing.
+// What is called, as an order says it: a step, a sound test, or a block's check. For any other byte nothing is
+// called.
 const STEPS: u8 = b's';
 
 const TESTS: u8 = b't';
@@ -26,7 +27,7 @@ const CALLS: u64 = 100;
 // More orders than an input has.
 const MOST_ORDERS: u64 = 1000;
 
-// The next block of the input. What is not there reads 0, and such a block is refused.
+// The next block of the input. What is missing of it reads 0, and such a block is refused.
 fn read_block() -> [u8; Block::SIZE]
     ensures { λ r. ⌜ length r ≡ blockSize ⌝ }
 {
@@ -35,18 +36,20 @@ fn read_block() -> [u8; Block::SIZE]
     block
 }
 
+// The state that the set-up of a block begins with.
 fn begin_from(block: &[u8]) -> State {
     let part = blocks::used_part(block, blocks::judge_block(block, 0));
     states::begin(input::setup_from(part)).state
 }
 
+// The state after the events of a block.
 fn play_block(state: State, block: &[u8], index: u64) -> State {
     let mut out = [0u8; Block::MOST_EVENTS as usize * Reply::SNAPSHOT];
     let part = blocks::used_part(block, blocks::judge_block(block, index));
     locking::play(state, part, &mut out).state
 }
 
-// Plays the next blocks of the input: those behind the set-up's.
+// Plays the next blocks of the input, which follow the set-up's.
 fn play_blocks(begun: State, count: u64) -> State {
     let mut state = begun;
     for i in 0..count {
@@ -57,7 +60,7 @@ fn play_blocks(begun: State, count: u64) -> State {
     state
 }
 
-// One more, where something came out well.
+// One more, if a call passed.
 fn count_if(passed: bool, count: u64) -> u64 {
     if passed {
         std::num::wrapping_add_u64(count, 1)
@@ -66,8 +69,8 @@ fn count_if(passed: bool, count: u64) -> u64 {
     }
 }
 
-// Steps through the events of a part, each from the state before it, and behind the last again from the begun state;
-// gives how many were accepted.
+// Steps through the events of a part, each from the state before it, and after the last one again from the begun
+// state; returns how many were accepted.
 fn make_steps(begun: State, part: &[u8], calls: u64) -> u64 {
     let events = input::event_count(part);
     let mut state = begun;
@@ -87,8 +90,8 @@ fn make_steps(begun: State, part: &[u8], calls: u64) -> u64 {
     accepted
 }
 
-// Tests a state whose clock goes on by a tick before each test, so that no two tests are of the same state; gives how
-// many passed.
+// Tests a state whose clock moves on by a tick before each test, so that no two tests are of the same state; returns
+// how many passed.
 fn make_tests(begun: State, calls: u64) -> u64 {
     let mut state = begun;
     let mut passed = 0;
@@ -99,7 +102,7 @@ fn make_tests(begun: State, calls: u64) -> u64 {
     passed
 }
 
-// Checks a block whose last byte, of the check, is another in every second call; gives how often it was accepted.
+// Checks a block whose last byte, of the check, is wrong in every second call; returns how often it was accepted.
 fn make_checks(given: [u8; Block::SIZE], index: u64, calls: u64) -> u64 {
     let mut block = given;
     let mut accepted = 0;
@@ -115,7 +118,7 @@ fn make_checks(given: [u8; Block::SIZE], index: u64, calls: u64) -> u64 {
     accepted
 }
 
-// Makes the calls of an order, and gives how many of them came out well.
+// Makes the calls of an order; returns how many of them passed.
 fn follow(what: u8, state: State, block: [u8; Block::SIZE], index: u64, calls: u64) -> u64 {
     match what {
         STEPS => {
@@ -128,7 +131,7 @@ fn follow(what: u8, state: State, block: [u8; Block::SIZE], index: u64, calls: u
     }
 }
 
-// Follows the next order and tells how many of its calls came out well; past the input's end there is none.
+// Follows the next order and prints how many of its calls passed; returns false at the input's end.
 fn take_order(state: State, block: [u8; Block::SIZE], index: u64) -> bool {
     let mut order = [0u8; 3];
     let got = io::read_full(STDIN_FILENO, &mut order);

@@ -1,4 +1,5 @@
--- Document 01, 'Blocks', and ticket 1: the block that is written of events, and events from a block that was read.
+-- RULES.md, 'Blocks' and 'Writing blocks': the block that is written of events, and the events of a block that was
+-- read.
 use Prim.Native.Nat.{ℕ, _/_, _%_}
 use mathlib.Core.Bool.{not, _||_}
 use mathlib.Core.List.{List, []}
@@ -30,24 +31,26 @@ module _ (x : Events) where
   unfoldable pub eventsByte : ℕ → ℕ
   eventsByte i = getD (eventBytes (eventOf (i / eventSize))) (i % eventSize) 0
 
+  -- the payload
   unfoldable pub eventsPayload : List ℕ
   eventsPayload = table eventsByte payloadSize
 
   module _ (index : ℕ) where
-    -- of kind 2, with its index's number
+    -- the block, of kind 2, with the number of its index
     unfoldable pub blockOfEvents : List ℕ
     blockOfEvents = sealed (headOf index eventBlock (x .count)) eventsPayload
 
+    -- the list of 34 and 32
     unfoldable pub eventRows : List Row
     eventRows =
         recordCountWrong when not (within 1 (x .count) mostEvents) otherwise
         numberWrong when (index is 0 || ltb lastIndex index) otherwise
         []
 
-    -- the answer, and the output block behind it: 37, then 34, then 32
+    -- the answer, the first of 37, 34 and 32 that applies or 0, and the lent block after
     unfoldable pub eventsWritten : List ℕ → ℕ × List ℕ
     eventsWritten out = writtenBy (lentRows out eventRows) blockOfEvents out
 
--- the events of a part that was read; what is not there reads 0
+-- the events of a part that was read; a byte past its end reads 0
 unfoldable pub eventsRead : List ℕ → Events
 eventsRead part = record { of = table (eventIn part) mostEvents; count = eventCount part }

@@ -1,5 +1,6 @@
--- Ticket 1 and document 01, 'Numbers handed back': each number of the writer is given exactly when its row is the
--- first that applies, and 0 when none does. Row 0 is the output block's own. On refusal that block stays as lent.
+-- RULES.md, 'Writing blocks' and 'Numbers handed back': each number of the writer is given exactly when its row is
+-- the first that applies, and 0 when none does. Row 0 is that of the lent block's size. On refusal that block stays
+-- as lent.
 use Prim.Native.Nat.{ℕ}
 use mathlib.Core.Path.{_≡_}
 use mathlib.Core.List.{List}
@@ -13,6 +14,7 @@ use Rattle.writer.specs.SetupBlocks.{setupWritten}
 use Rattle.writer.specs.Written.{lentRows}
 use Rattle.writer.specs.declared.Events.{Events}
 
+-- of a set-up to be written
 pub record SetupWriteNumbers (c : Setup) (out : List ℕ) : Type 0 where
   pub written : (setupWritten c out .0 ≡ 0) ↔ NoneApplies (lentRows out (setupRows c))
   pub size-wrong : (setupWritten c out .0 ≡ roomWrong) ↔ FirstAt (lentRows out (setupRows c)) 0
@@ -23,6 +25,7 @@ pub record SetupWriteNumbers (c : Setup) (out : List ℕ) : Type 0 where
   pub long-in-short : (setupWritten c out .0 ≡ longInShort) ↔ FirstAt (lentRows out (setupRows c)) 5
   pub kept : setupWritten c out .0 ≢ 0 → setupWritten c out .1 ≡ out
 
+-- of events to be written
 pub record EventsWriteNumbers (x : Events) (index : ℕ) (out : List ℕ) : Type 0 where
   pub written : (eventsWritten x index out .0 ≡ 0) ↔ NoneApplies (lentRows out (eventRows x index))
   pub size-wrong : (eventsWritten x index out .0 ≡ roomWrong) ↔ FirstAt (lentRows out (eventRows x index)) 0

@@ -1,5 +1,6 @@
--- Ticket 1: what is written the reader accepts and reads back equal, places past a count coming back 0; and what the
--- reader accepts, a set-up being free of 1 to 5 too, is written again byte for byte, whatever block is lent.
+-- RULES.md, 'Writing blocks': what is written the reader accepts and reads back equal, places past a count coming
+-- back 0; and what the reader accepts, a set-up being free of 1 to 5 too, is written again byte for byte, whatever
+-- block is lent.
 use Prim.Native.Nat.{ℕ, _*_, _<_}
 use mathlib.Core.Path.{_≡_}
 use mathlib.Core.List.{List}
@@ -26,14 +27,14 @@ SetupAccepted =
     → setupWritten c out .0 ≡ 0
     → verdict (setupWritten c out .1) 0 ≡ Used setupSize
 
--- and what it reads is the set-up, places past the counts being 0
+-- and the reader reads back the set-up, places past the counts being 0
 abbrev pub SetupBack : Type 0
 SetupBack =
     (c : Setup) (out : List ℕ)
     → setupWritten c out .0 ≡ 0
     → setupIn (usedPart (setupWritten c out .1) (verdict (setupWritten c out .1) 0)) ≡ cleared c
 
--- a block that the reader accepts, its set-up being free of 1 to 5, is written again to the byte
+-- a block that the reader accepts, its set-up being free of 1 to 5, is written again byte for byte
 abbrev pub SetupSame : Type 0
 SetupSame =
     (block : List ℕ) (n : ℕ)
@@ -44,21 +45,22 @@ SetupSame =
     → length out ≡ blockSize
     → setupWritten (setupIn (usedPart block (Used n))) out ≡ (0, block)
 
--- ---- events, of whatever content
+-- ---- events, of any content
+-- where the answer is 0, the reader accepts the block
 abbrev pub EventsAccepted : Type 0
 EventsAccepted =
     (x : Events) (index : ℕ) (out : List ℕ)
     → eventsWritten x index out .0 ≡ 0
     → verdict (eventsWritten x index out .1) index ≡ Used (eventSize * x .count)
 
--- and what it reads are the events, as many as were given, places past the count being empty
+-- and the reader reads back the events, as many as were given, places past the count being empty
 abbrev pub EventsBack : Type 0
 EventsBack =
     (x : Events) (index : ℕ) (out : List ℕ)
     → eventsWritten x index out .0 ≡ 0
     → eventsRead (usedPart (eventsWritten x index out .1) (verdict (eventsWritten x index out .1) index)) ≡ kept x
 
--- so that each event that is read is the one that was given
+-- so each event that is read back is the one that was given
 abbrev pub EachEventBack : Type 0
 EachEventBack =
     (x : Events) (index : ℕ) (out : List ℕ)
@@ -68,7 +70,7 @@ EachEventBack =
     → eventIn (usedPart (eventsWritten x index out .1) (verdict (eventsWritten x index out .1) index)) i
     ≡ getD (x .of) i noEvent
 
--- a block that the reader accepts as events is written again to the byte
+-- a block that the reader accepts as events is written again byte for byte
 abbrev pub EventsSame : Type 0
 EventsSame =
     (block : List ℕ) (index n : ℕ)

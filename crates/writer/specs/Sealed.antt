@@ -1,4 +1,4 @@
--- Document 01, 'Blocks': a block by its places, and the check behind it.
+-- RULES.md, 'Blocks': a block made of its head, its payload and the check.
 use Prim.Native.Nat.{ℕ, _-_, _%_}
 use mathlib.Core.List.{List, [], _∷_, _++_}
 use lib.Dec.{ltb}
@@ -10,16 +10,16 @@ use Rattle.blocks.specs.Sizes.{payloadAt, checkAt, blockSize, numbers}
 use Rattle.blocks.specs.Check.{checkOf}
 use Rattle.blocks.specs.declared.Check.{Check}
 
--- the number of a block, its kind and its count
+-- the head of a block: its number, its kind and its record count
 abbrev pub headOf : ℕ → ℕ → ℕ → List ℕ
 headOf index kind count = low (index % numbers) ∷ high (index % numbers) ∷ kind ∷ count ∷ []
 
--- the first sum, then the second
+-- the check as bytes: the first sum, then the second
 abbrev pub checkBytes : Check → List ℕ
 checkBytes c = low (c .first) ∷ high (c .first) ∷ low (c .second) ∷ high (c .second) ∷ []
 
--- the byte at place i of a block: its head, its payload, and the check of these two
 module _ (head payload : List ℕ) where
+  -- the byte at place i of the block, before the check: of the head or of the payload
   unfoldable pub bodyByte : ℕ → ℕ
   bodyByte i = if ltb i payloadAt then getD head i 0 else getD payload (i - payloadAt) 0
 
@@ -27,11 +27,14 @@ module _ (head payload : List ℕ) where
   abbrev pub bodyInto : List ℕ → List ℕ
   bodyInto out = table bodyByte checkAt ++ drop checkAt out
 
+  -- the check of head and payload
   unfoldable pub checkBehind : List ℕ
   checkBehind = checkBytes (checkOf (table bodyByte checkAt))
 
+  -- the byte at place i of the block
   unfoldable pub sealedByte : ℕ → ℕ
   sealedByte i = if ltb i checkAt then bodyByte i else getD checkBehind (i - checkAt) 0
 
+  -- the whole block
   unfoldable pub sealed : List ℕ
   sealed = table sealedByte blockSize

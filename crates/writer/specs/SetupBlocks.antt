@@ -1,4 +1,4 @@
--- Document 01, 'Blocks', and ticket 1: the block that is written of a set-up.
+-- RULES.md, 'Blocks' and 'Writing blocks': the block that is written of a set-up.
 use Prim.Native.Nat.{ℕ, _-_, _/_, _%_, _≤_}
 use mathlib.Core.List.{List, [], _∷_}
 use lib.Dec.{ltb}
@@ -15,7 +15,7 @@ use Rattle.blocks.specs.Sizes.{payloadSize, setupBlock}
 use Rattle.writer.specs.Sealed.{headOf, sealed}
 use Rattle.writer.specs.Written.{lentRows, writtenBy}
 
--- the counts are those of a set-up within the limits, so that each is one byte
+-- the counts are within their limits, so that each fits one byte
 pub record Counted (c : Setup) : Type 0 where
   pub processors : c .processors ≤ mostProcessors
   pub tasks : c .tasks ≤ mostTasks
@@ -23,21 +23,23 @@ pub record Counted (c : Setup) : Type 0 where
   pub pairs : c .pairs ≤ mostPairs
 
 module _ (c : Setup) where
+  -- the four counts
   abbrev pub countBytes : List ℕ
   countBytes = c .processors ∷ c .tasks ∷ c .resources ∷ c .pairs ∷ []
 
-  -- four bytes, low first
+  -- the starting clock: four bytes, little-endian
   abbrev pub startBytes : List ℕ
   startBytes = low (c .start % 65536) ∷ high (c .start % 65536) ∷ low (c .start / 65536) ∷ high (c .start / 65536) ∷ []
 
-  -- place i of the periods, two bytes each, and of the pairs, the outer and then the inner resource
+  -- the byte at place i of the periods, two bytes each, little-endian
   abbrev pub periodByte : ℕ → ℕ
   periodByte i = if i % 2 is 0 then low (period c (i / 2)) else high (period c (i / 2))
 
+  -- the byte at place i of the pairs, each the outer and then the inner resource
   abbrev pub pairByte : ℕ → ℕ
   pairByte i = if i % 2 is 0 then outerOf c (i / 2) else innerOf c (i / 2)
 
-  -- the byte at place i of the payload, all behind the tables being 0
+  -- the byte at place i of the payload, 0 after the tables
   unfoldable pub setupByte : ℕ → ℕ
   setupByte i =
       if ltb i startAt then getD countBytes i 0 else
@@ -46,13 +48,14 @@ module _ (c : Setup) where
       if ltb i pairsAt then kind c (i - kindsAt) else
       if ltb i setupSize then pairByte (i - pairsAt) else 0
 
+  -- the payload
   unfoldable pub setupPayload : List ℕ
   setupPayload = table setupByte payloadSize
 
--- block 0, of kind 1 and count 1; places past a count are written 0
+-- the block: block 0, of kind 1 and count 1; places past a count are written 0
 unfoldable pub blockOfSetup : Setup → List ℕ
 blockOfSetup c = sealed (headOf 0 setupBlock 1) (setupPayload (cleared c))
 
--- the answer, and the output block behind it: 37, then 1 to 5
+-- the answer, the first of 37 and 1 to 5 that applies or 0, and the lent block after
 unfoldable pub setupWritten : Setup → List ℕ → ℕ × List ℕ
 setupWritten c out = writtenBy (lentRows out (setupRows c)) (blockOfSetup c) out

@@ -1,4 +1,4 @@
-// The block of events, and events from a block that was read.
+// The block of events, and the events of a block that was read.
 use crate::Events;
 use crate::sealing::PAYLOAD;
 use crate::sealing::head_of;
@@ -36,6 +36,7 @@ fn events_byte(events: Events, i: usize) -> u8
     bytes[i % Event::SIZE]
 }
 
+// The payload.
 fn events_payload(events: Events) -> [u8; PAYLOAD]
     ensures { λ r. ⌜ r ≡ eventsPayload events ⌝ }
 {
@@ -59,8 +60,8 @@ fn refusal_of(events: Events, index: u64) -> u8
     )
 }
 
-// Writes the counted events into a lent block, as block `index` of a file. The answer is 0, or the first refusal that
-// applies, and then the block stays as lent.
+// Writes the counted events into a lent block, as block `index` of a file. Returns 0, or the first refusal that
+// applies; then the block stays as lent.
 pub fn write_events(events: Events, index: u64, out: &mut [u8]) -> u8
     ensures { λ r. ⌜ (r, now (out .exit)) ≡ eventsWritten events index (now (out .entry)) ⌝ }
 {
@@ -78,6 +79,7 @@ pub fn write_events(events: Events, index: u64, out: &mut [u8]) -> u8
     0
 }
 
+// The events of an event part, as many as a block can have; a byte past its end reads 0.
 fn list_in(part: &[u8]) -> [Event; Events::MOST]
     ensures { λ r. ⌜ r ≡ table (eventIn (now (part .entry))) mostEvents ⌝ }
 {
@@ -89,7 +91,7 @@ fn list_in(part: &[u8]) -> [Event; Events::MOST]
     list
 }
 
-// The events of an event part.
+// The events of an event part, with their count.
 pub fn events_from(part: &[u8]) -> Events
     ensures { λ r. ⌜ r ≡ eventsRead (now (part .entry)) ⌝ }
 {

@@ -1,4 +1,4 @@
-// The writer of the studio's block files: a set-up or up to 84 events into a lent block, which the reader takes back.
+// The writer of block files: a set-up or up to 84 events into a lent block, which the reader reads back.
 mod event_blocks;
 mod sealing;
 mod setup_blocks;
@@ -16,5 +16,6 @@ pub struct Events {
 }
 
 impl Events {
+    // The most events in a block.
     pub const MOST: usize = Block::MOST_EVENTS as usize;
 }

@@ -1,4 +1,4 @@
-// A block from its head and its payload, with the check behind them.
+// A block made of its head, its payload and the check.
 use blocks::Block;
 use input::high;
 use input::low;
@@ -7,8 +7,10 @@ ghost use lib.ListN.{length};
 ghost use Rattle.blocks.specs.Sizes.{blockSize};
 ghost use Rattle.writer.specs.Sealed.{headOf, bodyByte, bodyInto, sealed};
 
+// The bytes of the payload.
 pub const PAYLOAD: usize = Block::CHECK_AT - Block::PAYLOAD_AT;
 
+// The head of a block: its number, its kind and its record count.
 pub fn head_of(index: u64, kind: u8, count: u8) -> [u8; Block::PAYLOAD_AT]
     ensures { λ r. ⌜ r ≡ headOf index kind count ⌝ }
 {
@@ -16,6 +18,7 @@ pub fn head_of(index: u64, kind: u8, count: u8) -> [u8; Block::PAYLOAD_AT]
     [low(number), high(number), kind, count]
 }
 
+// The byte at place `i` of the block, before the check.
 fn body_byte(head: &[u8], payload: &[u8], i: usize) -> u8
     ensures { λ r. ⌜ r ≡ bodyByte (now (head .entry)) (now (payload .entry)) i ⌝ }
 {
@@ -26,7 +29,7 @@ fn body_byte(head: &[u8], payload: &[u8], i: usize) -> u8
     }
 }
 
-// Everything before the check.
+// Writes everything before the check.
 fn put_body(out: &mut [u8], head: &[u8], payload: &[u8])
     requires { ⌜ length (now out) ≡ blockSize ⌝ }
     ensures { λ _. ⌜ now (out .exit) ≡ bodyInto (now (head .entry)) (now (payload .entry)) (now (out .entry)) ⌝ }
@@ -36,6 +39,7 @@ fn put_body(out: &mut [u8], head: &[u8], payload: &[u8])
     }
 }
 
+// Writes a whole block, with its check.
 pub fn put_block(out: &mut [u8], head: &[u8], payload: &[u8])
     requires { ⌜ length (now out) ≡ blockSize ⌝ }
     ensures { λ _. ⌜ now (out .exit) ≡ sealed (now (head .entry)) (now (payload .entry)) ⌝ }

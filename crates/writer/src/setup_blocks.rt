@@ -14,6 +14,7 @@ ghost use Rattle.numbers.specs.Limits.{mostTasks, mostPairs};
 ghost use Rattle.writer.specs.SetupBlocks.{Counted, periodByte, pairByte, setupByte, setupPayload, setupWritten};
 ghost use Rattle.writer.specs.SetupBlocks as spec;
 
+// The four counts.
 fn count_bytes(setup: Setup) -> [u8; Setup::START_AT]
     requires { ⌜ Counted setup ⌝ }
     ensures { λ r. ⌜ r ≡ spec.countBytes setup ⌝ }
@@ -26,6 +27,7 @@ fn count_bytes(setup: Setup) -> [u8; Setup::START_AT]
     ]
 }
 
+// The starting clock: four bytes, little-endian.
 fn start_bytes(setup: Setup) -> [u8; 4]
     ensures { λ r. ⌜ r ≡ spec.startBytes setup ⌝ }
 {
@@ -34,7 +36,7 @@ fn start_bytes(setup: Setup) -> [u8; 4]
     [low(first), high(first), low(second), high(second)]
 }
 
-// Place `i` of the periods, and of the pairs.
+// The byte at place `i` of the periods, two bytes each, little-endian.
 fn period_byte(setup: Setup, i: usize) -> u8
     requires { ⌜ i < 2 * mostTasks ⌝ }
     ensures { λ r. ⌜ r ≡ periodByte setup i ⌝ }
@@ -47,6 +49,7 @@ fn period_byte(setup: Setup, i: usize) -> u8
     }
 }
 
+// The byte at place `i` of the pairs, each the outer and then the inner resource.
 fn pair_byte(setup: Setup, i: usize) -> u8
     requires { ⌜ i < 2 * mostPairs ⌝ }
     ensures { λ r. ⌜ r ≡ pairByte setup i ⌝ }
@@ -58,7 +61,7 @@ fn pair_byte(setup: Setup, i: usize) -> u8
     }
 }
 
-// The byte at place `i` of the payload.
+// The byte at place `i` of the payload, 0 after the tables.
 fn setup_byte(setup: Setup, i: usize) -> u8
     requires { ⌜ Counted setup ⌝ }
     ensures { λ r. ⌜ r ≡ setupByte setup i ⌝ }
@@ -83,6 +86,7 @@ fn setup_byte(setup: Setup, i: usize) -> u8
     0
 }
 
+// The payload.
 fn setup_payload(setup: Setup) -> [u8; PAYLOAD]
     requires { ⌜ Counted setup ⌝ }
     ensures { λ r. ⌜ r ≡ setupPayload setup ⌝ }
@@ -94,8 +98,7 @@ fn setup_payload(setup: Setup) -> [u8; PAYLOAD]
     payload
 }
 
-// Writes a set-up into a lent block. The answer is 0, or the first refusal that applies, and then the block stays as
-// lent.
+// Writes a set-up into a lent block. Returns 0, or the first refusal that applies; then the block stays as lent.
 pub fn write_setup(setup: Setup, out: &mut [u8]) -> u8
     ensures { λ r. ⌜ (r, now (out .exit)) ≡ setupWritten setup (now (out .entry)) ⌝ }
 {

@@ -45,14 +45,14 @@ use Rattle.protocol.proofs.Demands.StillWaiting.{Same, step-stays}
 
 -- ---- an accepted event
 module _ (s : State) (e : Event) (Q : Sound s) (ok : judge s e ≡ 0) where
+  abbrev s₁ : State
+  s₁ = charged (stepOf s e) s
+
   abbrev t : ℕ
   t = e .task
 
   abbrev r : ℕ
   r = e .resource
-
-  abbrev s₁ : State
-  s₁ = charged (stepOf s e) s
 
   g-in : (asking ≤ e .kind) × (e .kind ≤ completion) → groupOf (s .setup) r < mostResources
   g-in k = let G = grouped s e Q ok in omega (arith, G .low r (row12 s e Q ok k), G .few-resources)

@@ -1,12 +1,10 @@
 -- Demand 3, of any sound state. Assumes nothing.
 use Prim.Native.Nat.{ℕ, zero, suc, _<_, _≤_}
 use mathlib.Core.Path.{_≡_, refl, sym, ap, subst, _∙_}
-use mathlib.Core.Bool.{_&&_}
 use mathlib.Core.Logic.{_≢_, _⊎_, inl, inr, ⊎-elim}
 use native.Mathlib.Omega.{arith}
 use native.Mathlib.Decide.{ℕ-discrete}
 use borrow.Author.Tests.{le-leb, lt-leb, ne-eqb, eq-eqb, leb-true}
-use Rattle.search.specs.Words.{_isn't_}
 use Rattle.search.proofs.Tests.{tests}
 use Rattle.search.proofs.Pigeons.{howMany-same}
 use Rattle.numbers.specs.Limits.{mostTasks, nobody}

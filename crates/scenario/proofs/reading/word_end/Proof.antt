@@ -26,8 +26,8 @@ is-blank-requires c κs = search needs
 
 returns : tie.Need-returns Inv-loop μ-loop
 returns c =
-    let o = (c .before .before .before .before .loop) in
     let l = (c .before .before .before .before .before .before .args) .l .now in
+    let o = (c .before .before .before .before .loop) in
     let h : o .i < length l = search needs in
     let b : isBlank (getD l (o .i) 0) ≡ true = sym ((c .before .is-blank) .ensures) ∙ ((c .if1) .taken) in
     let z = letters-off l (o .i) h b in

@@ -4,7 +4,7 @@ use mathlib.Core.Path.{_≡_}
 use native.Mathlib.Omega.{arith}
 use native.Mathlib.Numerals.{add-one}
 use borrow.Author.Needs.{needs}
-use Rattle.search.specs.Words.{_is_, _implies_}
+use Rattle.search.specs.Words.{_is_}
 use Rattle.search.specs.Below.{allBelow}
 use Rattle.soundness.specs.Opens.{isTogether}
 use Rattle.soundness.proofs.requests.all_together.Statement.{statement}

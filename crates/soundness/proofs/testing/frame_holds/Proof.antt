@@ -1,5 +1,4 @@
 -- A clock of 32 bits is within its end. Assumes nothing.
-use mathlib.Core.Path.{_≡_}
 use mathlib.Core.Bool.{and-true}
 use borrow.Author.Needs.{needs}
 use borrow.Author.Tests.{le-leb}
