@@ -2,7 +2,7 @@
 
 Of a line: its number from the list, its length, and how many bytes of the buffer were written: all of the line, or,
 refused, none. Of a block or an event: its number alone. Behind them stand rows of hostile states, of pages, of parts
-and of written blocks, whose columns are told below.
+and of written blocks, whose columns are explained below.
 """
 
 from dataclasses import dataclass
@@ -79,7 +79,7 @@ class Hostile:
     totals: tuple = tuple(TOTALS)
 
 
-# Jobs told: the document leaves open what they are in a state that is not sound. Three are pending and none is
+# Jobs seen: the document leaves open what they are in a state that is not sound. Three are pending and none is
 # suspended, so three are runnable, whatever else is hostile. Places and totals: the document has at most 8 processors and
 # 32 tasks.
 RUNNABLE = 3
@@ -128,7 +128,7 @@ def sound_rows():
     Time passes to tick 9: accepted, and the state is another. The second event played has kind 255: 10.
     """
     first, event, task = 'processors 2 tasks 3 start 65530', f'6 0 {PLACES}', 'task 0 10 0 0 0 0'
-    return ['events 1 0 0 0 0 10 2 0', f'told 1 {RUNNABLE} {line(first)} {line(event)} {line(task)}',
+    return ['events 1 0 0 0 0 10 2 0', f'state 1 {RUNNABLE} {line(first)} {line(event)} {line(task)}',
             'block ' + page(f'{event}\n', 2, 6, 0, 0), 'end ' + page(totals_text(TOTALS), 1, 5, 1, 1)]
 
 
@@ -137,12 +137,12 @@ def hostile_rows(one):
 
     events: whether it is the busy state: no. Judged: 9. Stepped: 9, and the state as before: 1. Both events played: 9,
     9, how many: 2, and the state as before: 1.
-    told: whether it is sound: no. The jobs. The three lines: each refused with 9, length 0, nothing written.
+    state: whether it is sound: no. The jobs. The three lines: each refused with 9, length 0, nothing written.
     block: a good block is accepted, whatever the state, so the session goes on; the sixth event has the answer 9, and
     the places are those of the same state.
     end: the normal end, so the output is over; the totals of each task.
     """
-    return ['events 0 9 9 1 9 9 2 1', f'told 0 {RUNNABLE} {refused(9)} {refused(9)} {refused(9)}',
+    return ['events 0 9 9 1 9 9 2 1', f'state 0 {RUNNABLE} {refused(9)} {refused(9)} {refused(9)}',
             'block ' + page(f'6 9 {one.places}\n', 2, 6, 0, 1), 'end ' + page(totals_text(one.totals), 1, 5, 1, 1)]
 
 

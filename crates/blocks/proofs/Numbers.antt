@@ -10,7 +10,7 @@ use lib.ListN.{length, drop, length-drop}
 use lib.Seq.{length-take-le}
 use borrow.Author.Tests.{ne-eqb}
 use Rattle.numbers.specs.Rows.{firstOf}
-use Rattle.numbers.specs.Numbered.{standsAt, FirstAt, NoneApplies}
+use Rattle.numbers.specs.Numbered.{isAtRow, FirstAt, NoneApplies}
 use Rattle.search.proofs.Tests.{tests}
 use Rattle.numbers.proofs.Refusals.{Given, given-iff, none-iff, number-iff}
 use Rattle.blocks.specs.Sizes.{payloadAt, payloadSize}
@@ -49,7 +49,7 @@ module _ (block : List ℕ) (index : ℕ) where
   ]
 
   -- each number, by its row
-  given-at : (n i : ℕ) → n ≢ 0 → standsAt (blockRows block index) n i ≡ true → (numberOf (verdict block index) ≡ n) ↔ FirstAt (blockRows block index) i
+  given-at : (n i : ℕ) → n ≢ 0 → isAtRow (blockRows block index) n i ≡ true → (numberOf (verdict block index) ≡ n) ↔ FirstAt (blockRows block index) i
   given-at n i d m = rw number-first (number-iff (blockRows block index) n i d m)
 
   pub block-numbers : BlockNumbers block index

@@ -59,7 +59,7 @@ fn tell_events(which: u64, state: State, busy: State) {
 }
 
 // How many runnable jobs the scheduler is given.
-fn told_jobs(state: State) -> u64 {
+fn jobs_seen(state: State) -> u64 {
     let setup = state.setup;
     let kinds = setup.kinds;
     let tasks = state.tasks;
@@ -77,9 +77,9 @@ fn told_jobs(state: State) -> u64 {
 
 // Prints whether the state is sound, its runnable jobs, and its three lines, each into a buffer of its own.
 fn tell_lines(which: u64, state: State) {
-    begin_row(which, b" told");
+    begin_row(which, b" state");
     print_flag(soundness::is_sound(state));
-    print_number(told_jobs(state));
+    print_number(jobs_seen(state));
     let mut out = [LENT; Line::LIMIT];
     let line = lines::first_line(state, &mut out);
     print_line(line, &out);

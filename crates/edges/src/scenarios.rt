@@ -8,7 +8,7 @@ use blocks::Block;
 use libc::STDOUT_FILENO;
 use scenario::Draft;
 use scenario::Item;
-use scenario::Told;
+use scenario::Outcome;
 
 // Prints a word.
 fn say(word: &[u8]) {
@@ -16,15 +16,15 @@ fn say(word: &[u8]) {
 }
 
 // Prints what became of an item.
-fn print_told(told: Told) {
-    match told {
-        Told::Kept => say(b" kept"),
-        Told::Written => say(b" written"),
-        Told::Faulty(reason) => {
+fn print_outcome(outcome: Outcome) {
+    match outcome {
+        Outcome::Kept => say(b" kept"),
+        Outcome::Written => say(b" written"),
+        Outcome::Faulty(reason) => {
             say(b" faulty");
             print_answer(reason);
         }
-        Told::Refused(number) => {
+        Outcome::Refused(number) => {
             say(b" refused");
             print_answer(number);
         }
@@ -35,9 +35,9 @@ fn print_told(told: Told) {
 fn take_item(draft: Draft, item: Item) -> Draft {
     let mut block = [LENT; Block::SIZE];
     let taken = scenario::take_item(draft, item, &mut block);
-    let told = taken.told;
+    let outcome = taken.outcome;
     say(b"line");
-    print_told(told);
+    print_outcome(outcome);
     print_flag(changed(&block, 0) > 0);
     end_row();
     taken.draft

@@ -10,7 +10,7 @@ use native.Mathlib.Decide.{ℕ-discrete}
 use lib.ListN.{length}
 use borrow.Author.Tests.{ne-eqb, lt-ltb, ltb-true}
 use Rattle.numbers.specs.Rows.{Row, firstOf}
-use Rattle.numbers.specs.Numbered.{isNumbered, standsAt, FirstAt, NoneApplies}
+use Rattle.numbers.specs.Numbered.{isNumbered, isAtRow, FirstAt, NoneApplies}
 use Rattle.numbers.proofs.Refusals.{none-iff, number-iff}
 use Rattle.protocol.specs.declared.State.{State}
 use Rattle.lines.specs.Buffers.{lineLimit, lineInto, narrow}
@@ -24,7 +24,7 @@ number-first rows text out = elim (ℕ-discrete (firstOf rows) 0) [ yes e ↦ rw
 given-none : (rows : List Row) (text out : List ℕ) → isNumbered rows ≡ true → (lineInto rows text out .0 .number ≡ 0) ↔ NoneApplies rows
 given-none rows text out t = rw (number-first rows text out) (none-iff rows t)
 
-given-at : (rows : List Row) (text out : List ℕ) (n i : ℕ) → n ≢ 0 → standsAt rows n i ≡ true → (lineInto rows text out .0 .number ≡ n) ↔ FirstAt rows i
+given-at : (rows : List Row) (text out : List ℕ) (n i : ℕ) → n ≢ 0 → isAtRow rows n i ≡ true → (lineInto rows text out .0 .number ≡ n) ↔ FirstAt rows i
 given-at rows text out n i d m = rw (number-first rows text out) (number-iff rows n i d m)
 
 narrow-iff : (text out : List ℕ) → (lineInto (narrow out) text out .0 .number ≡ 36) ↔ (length out < lineLimit)

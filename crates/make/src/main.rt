@@ -7,7 +7,7 @@ use libc::STDIN_FILENO;
 use libc::STDOUT_FILENO;
 use scenario::Draft;
 use scenario::Item;
-use scenario::Told;
+use scenario::Outcome;
 ghost use Prim.Native.Nat.{_≤_};
 ghost use lib.ListN.{length};
 
@@ -40,21 +40,21 @@ struct More {
 }
 
 // Writes the block that an item completed, or says what is wrong with the item; returns whether the output has ended.
-fn answer(told: Told, lines: u64, line: &[u8], block: &[u8]) -> bool {
-    match told {
-        Told::Kept => false,
-        Told::Written => {
+fn answer(outcome: Outcome, lines: u64, line: &[u8], block: &[u8]) -> bool {
+    match outcome {
+        Outcome::Kept => false,
+        Outcome::Written => {
             let written = io::write_all(STDOUT_FILENO, block);
             if !written {
                 faults::say_unwritten();
             }
             !written
         }
-        Told::Faulty(reason) => {
+        Outcome::Faulty(reason) => {
             faults::say_faulty(lines, line, reason);
             true
         }
-        Told::Refused(number) => {
+        Outcome::Refused(number) => {
             faults::say_refused(number);
             true
         }
@@ -67,8 +67,8 @@ fn take_line(making: Making, line: &[u8]) -> Making {
     let lines = std::num::wrapping_add_u64(making.lines, 1);
     let taken = scenario::take_item(making.draft, scenario::read_line(line), &mut block);
     let draft = taken.draft;
-    let told = taken.told;
-    let over = answer(told, lines, line, &block);
+    let outcome = taken.outcome;
+    let over = answer(outcome, lines, line, &block);
     Making { draft, lines, over }
 }
 
@@ -100,11 +100,11 @@ fn take_end(begun: Making, rest: &[u8]) {
     if !making.over {
         let mut block = [0u8; Block::SIZE];
         let taken = scenario::take_item(making.draft, Item::Block, &mut block);
-        let told = taken.told;
-        match told {
-            Told::Faulty(reason) => faults::say_faulty_end(reason),
+        let outcome = taken.outcome;
+        match outcome {
+            Outcome::Faulty(reason) => faults::say_faulty_end(reason),
             _ => {
-                answer(told, making.lines, rest, &block);
+                answer(outcome, making.lines, rest, &block);
             }
         }
     }

@@ -10,7 +10,7 @@ use lib.ListN.{length, getD}
 use borrow.Author.Tests.{eqb-true, eqb-false, not-true}
 use Rattle.search.specs.Words.{if_then_else_, _is_, _isn't_}
 use Rattle.numbers.specs.Rows.{Row, firstOf}
-use Rattle.numbers.specs.Numbered.{noRow, isNumbered, isMissing, standsAt, FirstAt, NoneApplies}
+use Rattle.numbers.specs.Numbered.{noRow, isNumbered, isMissing, isAtRow, FirstAt, NoneApplies}
 use Rattle.search.proofs.Tests.{never, and-left, and-right}
 
 -- row i is numbered n and applies, and no earlier row does
@@ -90,7 +90,7 @@ missing (row ∷ rows) n d m e = go (row .1) refl (missing rows n d (and-right (
     go true q ih = eqb-false (row .0) n (not-true _ (and-left _ _ m)) (rw q at e)
     go false q ih = ih (rw q at e)
 
-first-there : (rows : List Row) (n i : ℕ) → n ≢ 0 → standsAt rows n i ≡ true → firstOf rows ≡ n → FirstAt rows i
+first-there : (rows : List Row) (n i : ℕ) → n ≢ 0 → isAtRow rows n i ≡ true → firstOf rows ≡ n → FirstAt rows i
 first-there [] n i d m e = never refl m
 first-there (row ∷ rows) n zero d m e = go (row .1) refl
   where
@@ -107,12 +107,12 @@ first-there (row ∷ rows) n (suc i) d m e = go (row .1) refl (first-there rows 
         below zero l F = q
         below (suc k) l F = F .earlier k (le-of-suc-le-suc l)
 
-there-first : (rows : List Row) (n i : ℕ) → standsAt rows n i ≡ true → FirstAt rows i → firstOf rows ≡ n
+there-first : (rows : List Row) (n i : ℕ) → isAtRow rows n i ≡ true → FirstAt rows i → firstOf rows ≡ n
 there-first [] n i m F = never refl m
 there-first (row ∷ rows) n zero m F = rw (F .applies) (eqb-true (row .0) n (and-left (row .0 is n) _ m))
 there-first (row ∷ rows) n (suc i) m F = rw (F .earlier 0 (omega arith))
     (there-first rows n i (and-right (row .0 isn't n) _ m) (record { applies = F .applies; earlier = λ k l. F .earlier (suc k) (omega arith) }))
 
 -- the answer is n exactly when row i is the first that applies, where n is that row's number and no other's
-pub number-iff : (rows : List Row) (n i : ℕ) → n ≢ 0 → standsAt rows n i ≡ true → (firstOf rows ≡ n) ↔ FirstAt rows i
+pub number-iff : (rows : List Row) (n i : ℕ) → n ≢ 0 → isAtRow rows n i ≡ true → (firstOf rows ≡ n) ↔ FirstAt rows i
 number-iff rows n i d m = (first-there rows n i d m, there-first rows n i m)

@@ -18,10 +18,10 @@ isMissing [] n = true
 isMissing (row ∷ rows) n = row .0 isn't n && isMissing rows n
 
 -- row i has the number n, and no other row has it; it computes without the rows' tests
-abbrev pub standsAt : List Row → ℕ → ℕ → Bool
-standsAt [] n i = false
-standsAt (row ∷ rows) n zero = row .0 is n && isMissing rows n
-standsAt (row ∷ rows) n (suc i) = row .0 isn't n && standsAt rows n i
+abbrev pub isAtRow : List Row → ℕ → ℕ → Bool
+isAtRow [] n i = false
+isAtRow (row ∷ rows) n zero = row .0 is n && isMissing rows n
+isAtRow (row ∷ rows) n (suc i) = row .0 isn't n && isAtRow rows n i
 
 -- what is read past the last row; it never applies
 abbrev pub noRow : Row

@@ -115,7 +115,7 @@ pub fifth-none : (i : ℕ) → sortAt i 4 ≡ noMore
 unfolding sortAt entryAt fifthIn
 fifth-none i = sym (List·getD-map fifthIn items i noEntry) ∙ same-places itemCount i noMore
 
--- ---- values that fit an item, told as a number; and a byte or a word of one that is no larger
+-- ---- values that fit an item, as a number; and a byte or a word of one that is no larger
 pub byte-kept : (v : ℕ) → v ≤ 255 → v % 256 ≡ v
 byte-kept v h = omega arith
 

@@ -17,7 +17,7 @@ use Rattle.writer.specs.declared.Events.{Events}
 use Rattle.scenario.specs.Drafts.{noEvents, adding, filling, kept, faulty, missing, answered, settled, setupEnds, blockEnds, eventTaken, blockTaken}
 use Rattle.scenario.specs.Made.{Blocks, before}
 use Rattle.scenario.specs.declared.Draft.{Draft}
-use Rattle.scenario.specs.declared.Told.the-variants.{Written, Refused}
+use Rattle.scenario.specs.declared.Outcome.the-variants.{Written, Refused}
 use Rattle.scenario.specs.declared.Taken.{Taken}
 
 -- ---- an item of the set-up: the next draft is of no account where the item is barred
@@ -63,7 +63,7 @@ module _ (d : Draft) (out : List ℕ) where
 module _ (later : Draft → Blocks) where
   -- the blocks from an item on that did this
   abbrev pub onward : Taken × List ℕ → Blocks
-  onward t = before (t .0 .told) (t .1) (later (t .0 .draft))
+  onward t = before (t .0 .outcome) (t .1) (later (t .0 .draft))
 
   -- the blocks from one that was written on
   abbrev pub led : List ℕ → Draft → Blocks
@@ -89,7 +89,7 @@ module _ (later : Draft → Blocks) where
   answered-zero d next number block h = go (eqb number 0) refl h
     where
       answer : Bool → Taken
-      answer b = if b then record { draft = next; told = Written } else record { draft = d; told = Refused number }
+      answer b = if b then record { draft = next; outcome = Written } else record { draft = d; outcome = Refused number }
 
       go : (b : Bool) → eqb number 0 ≡ b → onward (answer b, block) .all ≡ true → number ≡ 0
       go true e h = eqb-true number 0 e

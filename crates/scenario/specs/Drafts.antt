@@ -18,7 +18,7 @@ use Rattle.scenario.specs.SetupItems.{withProcessors, withStart, withTas
 use Rattle.scenario.specs.declared.Item.{Item}
 use Rattle.scenario.specs.declared.Item.the-variants.{Blank, Processors, Start, Task, Resource, Pair, Happens, Block, Wrong}
 use Rattle.scenario.specs.declared.Draft.{Draft}
-use Rattle.scenario.specs.declared.Told.the-variants.{Kept, Written, Faulty, Refused}
+use Rattle.scenario.specs.declared.Outcome.the-variants.{Kept, Written, Faulty, Refused}
 use Rattle.scenario.specs.declared.Taken.{Taken}
 
 -- ---- what is wrong with an item in its place
@@ -77,16 +77,16 @@ module _ (d : Draft) where
 -- ---- what became of an item
 -- it is kept, and nothing is written
 abbrev pub kept : Draft → Taken
-kept next = record { draft = next; told = Kept }
+kept next = record { draft = next; outcome = Kept }
 
 -- something is wrong with it, and the draft stays as it was
 abbrev pub faulty : Draft → ℕ → Taken
-faulty d reason = record { draft = d; told = Faulty reason }
+faulty d reason = record { draft = d; outcome = Faulty reason }
 
 -- the writer's answer to a block: it is written, or refused, and then the draft stays as it was
 unfoldable pub answered : Draft → Draft → ℕ → Taken
 answered d next number =
-    if number is 0 then record { draft = next; told = Written } else record { draft = d; told = Refused number }
+    if number is 0 then record { draft = next; outcome = Written } else record { draft = d; outcome = Refused number }
 
 module _ (d : Draft) where
   -- an item of the set-up, after which the draft is `next`; it is faulty after the set-up's end, and, for `reason`,

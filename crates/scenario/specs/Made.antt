@@ -18,8 +18,8 @@ use Rattle.scenario.specs.Drafts.{noDraft, taken}
 use Rattle.scenario.specs.declared.Item.{Item}
 use Rattle.scenario.specs.declared.Item.the-variants.{Blank, Processors, Start, Task, Resource, Pair, Happens, Block, Wrong}
 use Rattle.scenario.specs.declared.Draft.{Draft}
-use Rattle.scenario.specs.declared.Told.{Told}
-use Rattle.scenario.specs.declared.Told.the-variants.{Kept, Written, Faulty, Refused}
+use Rattle.scenario.specs.declared.Outcome.{Outcome}
+use Rattle.scenario.specs.declared.Outcome.the-variants.{Kept, Written, Faulty, Refused}
 
 -- ---- what items say, in order: a set-up, and events
 -- the set-up after an item
@@ -63,7 +63,7 @@ pub record Blocks : Type 0 where
   pub blocks : List (List ℕ)
 
 -- the blocks of an item, by what became of it and the block that it wrote, and those of the items after it
-unfoldable pub before : Told → List ℕ → Blocks → Blocks
+unfoldable pub before : Outcome → List ℕ → Blocks → Blocks
 before Kept block rest = rest
 before Written block rest = record { all = rest .all; blocks = block ∷ rest .blocks }
 before (Faulty reason) block rest = record { all = false; blocks = [] }
@@ -78,7 +78,7 @@ unfoldable pub blocksFrom : Draft → List Item → Blocks
 blocksFrom d [] = record { all = true; blocks = [] }
 blocksFrom d (item ∷ items) =
     let t = taken d item lent in
-    before (t .0 .told) (t .1) (blocksFrom (t .0 .draft) items)
+    before (t .0 .outcome) (t .1) (blocksFrom (t .0 .draft) items)
 
 -- the items of a scenario's lines
 abbrev pub itemsOf : List (List ℕ) → List Item

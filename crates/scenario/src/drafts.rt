@@ -1,8 +1,8 @@
 // A file in the making: what each item does to it, and the block that it writes, if any.
 use crate::Draft;
 use crate::Item;
+use crate::Outcome;
 use crate::Taken;
-use crate::Told;
 use crate::setup_items::with_pair;
 use crate::setup_items::with_processors;
 use crate::setup_items::with_resource;
@@ -61,7 +61,7 @@ fn kept(next: Draft) -> Taken
 {
     Taken {
         draft: next,
-        told: Told::Kept,
+        outcome: Outcome::Kept,
     }
 }
 
@@ -71,7 +71,7 @@ fn faulty(draft: Draft, reason: u8) -> Taken
 {
     Taken {
         draft,
-        told: Told::Faulty(reason),
+        outcome: Outcome::Faulty(reason),
     }
 }
 
@@ -166,12 +166,12 @@ fn answered(draft: Draft, next: Draft, number: u8) -> Taken
     if number == 0 {
         Taken {
             draft: next,
-            told: Told::Written,
+            outcome: Outcome::Written,
         }
     } else {
         Taken {
             draft,
-            told: Told::Refused(number),
+            outcome: Outcome::Refused(number),
         }
     }
 }

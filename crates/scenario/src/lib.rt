@@ -81,7 +81,7 @@ pub struct Draft {
 
 // What became of an item: the draft keeps it, or has written a block into the lent buffer; the item is faulty, with
 // the reason; or the writer refused the block, with its number. The last two leave the draft as it was.
-pub enum Told {
+pub enum Outcome {
     Kept,
     Written,
     Faulty(u8),
@@ -91,5 +91,5 @@ pub enum Told {
 // The draft after an item, and what became of the item.
 pub struct Taken {
     pub draft: Draft,
-    pub told: Told,
+    pub outcome: Outcome,
 }

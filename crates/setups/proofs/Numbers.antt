@@ -4,13 +4,13 @@ use mathlib.Core.Path.{_≡_, refl}
 use mathlib.Core.Bool.{true}
 use mathlib.Core.Logic.{_≢_, _↔_}
 use native.Mathlib.Omega.{arith}
-use Rattle.numbers.specs.Numbered.{standsAt, FirstAt}
+use Rattle.numbers.specs.Numbered.{isAtRow, FirstAt}
 use Rattle.numbers.proofs.Refusals.{none-iff, number-iff}
 use Rattle.setups.specs.Refusals.{setupRows, setupRefusal}
 use Rattle.setups.specs.Numbers.{SetupNumbers}
 use Rattle.input.specs.declared.Setup.{Setup}
 
-given-at : (c : Setup) (n i : ℕ) → n ≢ 0 → standsAt (setupRows c) n i ≡ true → (setupRefusal c ≡ n) ↔ FirstAt (setupRows c) i
+given-at : (c : Setup) (n i : ℕ) → n ≢ 0 → isAtRow (setupRows c) n i ≡ true → (setupRefusal c ≡ n) ↔ FirstAt (setupRows c) i
 unfolding setupRefusal
 given-at c n i d m = number-iff (setupRows c) n i d m
 

@@ -40,7 +40,7 @@ module _ (s : State) where
   unfolding stand
   stand-most t = no-more (task s t .standing)
 
-  -- the jobs that the scheduler is told are runnable are those that are
+  -- the jobs that are runnable for the scheduler are those that are
   jobs-runnable : (t : ℕ) → t < mostTasks → isRunnableJob (jobs (s .setup) s) t ≡ isRunnable s t
   jobs-runnable t h = elim (ℕ-discrete (stand s t) absent) [
     | yes e ↦ rw (lt-leb preemptable (modeOf (jobs (s .setup) s) t) (omega (arith, mode-absent (s .setup) s t h e)), eq-eqb _ _ e)
@@ -56,7 +56,7 @@ module _ (s : State) where
   jobs-ahead : (t u : ℕ) → t < mostTasks → u < mostTasks → isAheadJob (jobs (s .setup) s) t u ≡ isAhead s t u
   jobs-ahead t u h l = rw (jobs-runnable u l, rank-in-jobs (s .setup) s t h, rank-in-jobs (s .setup) s u l)
 
-  -- the counting form, of the jobs that the scheduler is told and of the state
+  -- the counting form, of the jobs that the scheduler is given and of the state
   counted : (m : ℕ) → s .processors .count ≡ m → Settled (s .processors) (jobs (s .setup) s) → Counted (s .processors) (jobs (s .setup) s) → LinksHighest s m
   counted m e S C = record {
     highest = λ t h.

@@ -4,14 +4,14 @@ use mathlib.Core.Path.{_≡_, refl}
 use mathlib.Core.Bool.{true}
 use mathlib.Core.Logic.{_≢_, _↔_}
 use native.Mathlib.Omega.{arith}
-use Rattle.numbers.specs.Numbered.{standsAt, FirstAt}
+use Rattle.numbers.specs.Numbered.{isAtRow, FirstAt}
 use Rattle.numbers.proofs.Refusals.{none-iff, number-iff}
 use Rattle.input.specs.declared.Event.{Event}
 use Rattle.protocol.specs.Refusals.{eventRows, judge}
 use Rattle.protocol.specs.Numbers.{EventNumbers}
 use Rattle.protocol.specs.declared.State.{State}
 
-given-at : (s : State) (e : Event) (n i : ℕ) → n ≢ 0 → standsAt (eventRows s e) n i ≡ true → (judge s e ≡ n) ↔ FirstAt (eventRows s e) i
+given-at : (s : State) (e : Event) (n i : ℕ) → n ≢ 0 → isAtRow (eventRows s e) n i ≡ true → (judge s e ≡ n) ↔ FirstAt (eventRows s e) i
 unfolding judge
 given-at s e n i d m = number-iff (eventRows s e) n i d m
 

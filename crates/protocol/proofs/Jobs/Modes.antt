@@ -1,4 +1,4 @@
--- What the scheduler is told: the mode and the rank of each task's job. Assumes nothing.
+-- What the scheduler is given: the mode and the rank of each task's job. Assumes nothing.
 use Prim.Native.Nat.{ℕ, zero, suc, _<_, _≤_}
 use mathlib.Core.Path.{_≡_, refl, sym, _∙_}
 use mathlib.Core.Logic.{_≢_, _⊎_, inl, inr, ⊎-elim, _↔_}

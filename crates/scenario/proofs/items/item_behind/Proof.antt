@@ -144,10 +144,10 @@ said-requires c κs =
 returns-2 : tie.Need-returns-2
 returns-2 c =
     let k = known (c .before .before) in
-    let told =
+    let outcome =
     c .said .ensures (λ j. argumentAt (given (c .before .before) .0) (rest (c .before .before)) j .value)
     (value-same (k .1 .0)) (value-same (k .1 .1)) (value-same (k .1 .2)) (value-same (k .1 .3)) in
-    told
+    outcome
     ∙ sym (behind-right (given (c .before .before) .0) (rest (c .before .before)) (sym (k .0) ∙ c .before .if1 .left))
 
 pub item-behind-spec : {M : Type 1} → statement M

@@ -3,8 +3,8 @@ use Prim.Native.Nat.{_≤_, _-_}
 use mathlib.Core.Logic.{⊎-elim}
 use native.Mathlib.Omega.{arith}
 use Rattle.numbers.specs.Limits.{mostTasks}
-use Rattle.edges.proofs.answers.told_jobs.Statement.{statement}
-use Rattle.edges.proofs.answers.told_jobs.Tie as tie
+use Rattle.edges.proofs.answers.jobs_seen.Statement.{statement}
+use Rattle.edges.proofs.answers.jobs_seen.Tie as tie
 
 abbrev Inv-loop : tie.InvT-loop
 Inv-loop jobs count₀ t₀ count t = (t ≤ mostTasks) × (count ≤ t)
@@ -36,8 +36,8 @@ loop-again c = ⊎-elim (λ w. omega arith) (λ w. omega arith) (c .if1 .came)
 returns : tie.Need-returns Inv-loop μ-loop
 returns c = search needs
 
-pub told-jobs-spec : {M : Type 1} → statement M
-told-jobs-spec =
+pub jobs-seen-spec : {M : Type 1} → statement M
+jobs-seen-spec =
     tie.close
     (tie.spec
     Inv-loop
