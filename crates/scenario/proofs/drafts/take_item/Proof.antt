@@ -4,8 +4,8 @@ use Rattle.scenario.specs.Drafts.{taken}
 use Rattle.scenario.proofs.drafts.take_item.Statement.{statement}
 use Rattle.scenario.proofs.drafts.take_item.Tie as tie
 
-enum-outcome : tie.Need-enum-outcome
-enum-outcome c = search needs
+enum-told : tie.Need-enum-told
+enum-told c = search needs
 
 kept-requires : tie.Need-kept-requires
 kept-requires c κs = search needs
@@ -46,8 +46,8 @@ enum-known-item-6 c = search needs
 take-event-requires : tie.Need-take-event-requires
 take-event-requires c κs = search needs
 
-enum-outcome-2 : tie.Need-enum-outcome-2
-enum-outcome-2 c = search needs
+enum-told-2 : tie.Need-enum-told-2
+enum-told-2 c = search needs
 
 take-block-requires : tie.Need-take-block-requires
 take-block-requires c κs = search needs
@@ -60,7 +60,7 @@ faulty-requires c κs = search needs
 
 returns : tie.Need-returns
 unfolding taken
-returns c = rw (c .before .enum-outcome .given .1, c .kept .ensures)
+returns c = rw (c .before .enum-told .given .1, c .kept .ensures)
 
 returns-2 : tie.Need-returns-2
 unfolding taken
@@ -96,7 +96,7 @@ same-length-2 c = search needs
 returns-8 : tie.Need-returns-8
 unfolding taken
 returns-8 c =
-    rw (c .before .before .before .before .enum-outcome2 .given .1, c .before .before .take-block .ensures)
+    rw (c .before .before .before .before .enum-told2 .given .1, c .before .before .take-block .ensures)
 
 returns-9 : tie.Need-returns-9
 unfolding taken
@@ -106,7 +106,7 @@ pub take-item-spec : {M : Type 1} → statement M
 take-item-spec =
     tie.close
     (tie.spec
-    enum-outcome
+    enum-told
     kept-requires
     enum-known-item
     take-processors-requires
@@ -120,7 +120,7 @@ take-item-spec =
     take-pair-requires
     enum-known-item-6
     take-event-requires
-    enum-outcome-2
+    enum-told-2
     take-block-requires
     enum-known-item-7
     faulty-requires
