@@ -12,6 +12,7 @@ contracts that no other crate can see, or by laws alone: nothing of them has to 
 """
 
 import re
+import signal
 import sys
 from pathlib import Path
 
@@ -123,6 +124,7 @@ def check():
 
 
 if __name__ == '__main__':
+    signal.signal(signal.SIGPIPE, signal.SIG_DFL)   # a reader that stops early is no fault
     if sys.argv[1:] == ['check']:
         sys.exit(check())
     if sys.argv[1:]:

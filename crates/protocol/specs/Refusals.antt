@@ -22,6 +22,10 @@ use Rattle.protocol.specs.declared.State.{State}
 abbrev pub ticks : ℕ
 ticks = 65536
 
+-- a step of half of them or more goes backward
+abbrev pub backward : ℕ
+backward = 32768
+
 -- the step from a clock to a tick of the console: the tick minus the last accepted one, modulo 65,536
 abbrev pub ticksTo : ℕ → ℕ → ℕ
 ticksTo clock tick = (tick + ticks - clock % ticks) % ticks
@@ -58,18 +62,18 @@ eventRows s e =
     let t = e .task in
     let r = e .resource in
     let acts = within finish (e .kind) completion in
-    let hinders = situationRefusal (situation s t) in
+    let comesAgain = e .kind is arrival && task s t .arrived in
+    let refusal = situationRefusal (situation s t) in
     notSound when not (sound s) otherwise
     -- 10 to 13, by the fields alone
     fieldRows (c .tasks) (c .resources) e ++ (
-    stepBackward when leb 32768 (stepOf s e) otherwise
+    stepBackward when leb backward (stepOf s e) otherwise
     clockPastEnd when ltb lastClock (clockAfter s e) otherwise
     alreadyPending when e .kind is arrival && stand s t isn't absent otherwise
-    arrivesEarly when e .kind is arrival && task s t .arrived
-    && ltb (clockAfter s e) (task s t .last + period c t) otherwise
-    notPending when acts && hinders is notPending otherwise
-    onNoProcessor when acts && hinders is onNoProcessor otherwise
-    isSpinning when acts && hinders is isSpinning otherwise
+    arrivesEarly when comesAgain && ltb (clockAfter s e) (task s t .last + period c t) otherwise
+    notPending when acts && refusal is notPending otherwise
+    onNoProcessor when acts && refusal is onNoProcessor otherwise
+    isSpinning when acts && refusal is isSpinning otherwise
     finishesOpen when e .kind is finish && depth s t isn't 0 otherwise
     alreadyOpen when e .kind is asking && anyBelow (depth s t) (λ i. request s t i is r) otherwise
     wronglyNested when e .kind is asking && misplaced c s t r otherwise
