@@ -43,6 +43,13 @@ fn free_mask(p: Processors) -> u32
     free
 }
 
+// The link of processor `a` has a lower priority than that of `b`.
+fn links_lower(p: Processors, ranks: &Ranks, a: usize, b: usize) -> bool
+    ensures { λ r. ⌜ r ≡ linksLower p (jobsFrom (now (ranks .entry)) []) a b ⌝ }
+{
+    is_higher(ranks, link_at(p, b), link_at(p, a))
+}
+
 // Of processor `k` and the best so far, the one with the lower-priority link; `Processors::LIMIT` is none so far.
 fn lower_link(p: Processors, ranks: &Ranks, k: usize, best: usize) -> usize
     ensures { λ r. ⌜ r ≡ better (isUsed p) (linksLower p (jobsFrom (now (ranks .entry)) [])) mostProcessors k best ⌝ }
@@ -51,8 +58,7 @@ fn lower_link(p: Processors, ranks: &Ranks, k: usize, best: usize) -> usize
         if best == Processors::LIMIT {
             k
         } else {
-            let lower = is_higher(ranks, link_at(p, best), link_at(p, k));
-            search::pick(lower, k, best)
+            search::pick(links_lower(p, ranks, k, best), k, best)
         }
     } else {
         best
