@@ -10,7 +10,7 @@ die() { tell "$*"; exit 2; }
 
 # ---- the toolchain ----
 
-# The toolchain's folder for this machine stands beside the bin/ that `rt` on the path leads to.
+# The toolchain's folder for this machine is beside the bin/ that `rt` on the path leads to.
 find_toolchain() {
     rt=$(command -v rt) || die 'rt is not on the path: the Rattle toolchain is needed to build and run the program'
     rt=$(readlink -f "$rt")
@@ -18,7 +18,7 @@ find_toolchain() {
     loader=$tools/lib/ld-linux-x86-64.so.2
     [ -f "$loader" ] || die "no loader at $loader: set RATTLE_HOME to the toolchain's folder"
     # Programs are for x86-64; elsewhere the toolchain has an emulator. It runs `rep movsb` and `rep stosb` a byte at a
-    # time, so the C library is told to copy and to fill by wider moves there, whatever the length.
+    # time, so the C library is set to copy and to fill by wider moves there, whatever the length.
     emulator=$tools/bin/qemu-x86_64
     if [ -x "$emulator" ]; then
         GLIBC_TUNABLES=glibc.cpu.x86_rep_movsb_threshold=1073741824:glibc.cpu.x86_rep_stosb_threshold=1073741824
@@ -50,7 +50,7 @@ count_crates() { # NAME
         END { visit(name); print count + 0 }' "$root/crates.txt"
 }
 
-# Passes on what `rt check` says, and tells on standard error how many crates are proved so far: on a terminal in one
+# Passes on what `rt check` says, and says on standard error how many crates are proved so far: on a terminal in one
 # line, which is rewritten, otherwise in a line for each quarter of them.
 show_progress() { # CRATES
     proved=0 quarters=0
@@ -127,7 +127,7 @@ read_from() { # FILE
     exec <"$1"
 }
 
-# How a program or `cat` ended: 141 stands for the signal that the reader of its output stopped early, and is passed on
+# How a program or `cat` ended: 141 means the signal that the reader of its output stopped early, and is passed on
 # without a message.
 expect_end() { # STATUS MESSAGE
     case $1 in

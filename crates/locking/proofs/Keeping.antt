@@ -25,7 +25,7 @@ use Rattle.protocol.specs.declared.Group.{Group}
 use Rattle.protocol.specs.declared.State.{State}
 use Rattle.protocol.proofs.Sound.Reflect.{Shaped}
 use Rattle.priorities.specs.Bounds.{isBounded, rankBy, modeIn, rankWith}
-use Rattle.priorities.proofs.Telling.{ranks-ruled, modes-ruled}
+use Rattle.priorities.proofs.Ruled.{ranks-ruled, modes-ruled}
 use Rattle.locking.specs.Edits.{put}
 use Rattle.locking.specs.Totals.{allTotals, rowOf, counted, totalsIn, chargedTo}
 use Rattle.locking.specs.Keeping.{keptIn, Keeps}

@@ -58,12 +58,12 @@ fn request(kinds: [u8; Setup::RESOURCES], task: Task, group: Group, t: u8, r: u8
         }
     } else {
         let waits = states::with_standing(task, Standing::Waiting(lock_of(kind, r)));
-        let line = queue.append(t);
+        let longer = queue.append(t);
         Edit {
             task: waits,
             group: Group {
                 holder: group.holder,
-                queue: line,
+                queue: longer,
             },
             turn: row(Edit::STAY, kind == Setup::SHORT, Edit::LEAVE),
             next: Limit::NOBODY,

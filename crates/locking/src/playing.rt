@@ -92,9 +92,9 @@ fn play_events(state: State, tested: Tested, part: &[u8], count: usize, out: &mu
                 let waits = tasks[u];
                 let given = hand_over(waits, group, edit.turn, edit.next);
                 let heir = given.task;
-                let line = given.group;
+                let passed = given.group;
                 tasks[u] = heir;
-                groups[g] = line;
+                groups[g] = passed;
                 let inherited = keep(kept, kinds, heir, edit.next);
                 kept = inherited;
                 p = moved(given.turn, p, kept, setup, groups, edit.next);

@@ -1,3 +1,3 @@
 pub mod Bounding
 pub mod Past
-pub mod Telling
+pub mod Ruled

@@ -35,7 +35,7 @@ pub fn is_higher(ranks: &Ranks, a: u8, b: u8) -> bool
 }
 
 // The task of processor `k` in a list of the processors' tasks, or nobody.
-fn task_at(tasks: [u8; Processors::LIMIT], k: usize) -> u8
+pub fn task_at(tasks: [u8; Processors::LIMIT], k: usize) -> u8
     ensures { λ r. ⌜ r ≡ getD tasks k nobody ⌝ }
 {
     if k < Processors::LIMIT {

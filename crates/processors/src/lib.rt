@@ -12,6 +12,7 @@ pub use finding::link_of;
 pub use finding::mode_of;
 pub use finding::run_of;
 pub use finding::runs_at;
+pub use finding::task_at;
 use numbers::Limit;
 
 // The task that each processor is linked to, and the task that it runs; both nobody from `count` on.

@@ -10,6 +10,7 @@ use processors::link_on;
 use processors::mode_of;
 use processors::place_on;
 use processors::runs_at;
+use processors::task_at;
 ghost use mathlib.Core.Path.{_≡_};
 ghost use mathlib.Core.List.{[]};
 ghost use Rattle.search.specs.First.{bit, mask};
@@ -47,7 +48,8 @@ fn free_mask(p: Processors) -> u32
 fn links_lower(p: Processors, ranks: &Ranks, a: usize, b: usize) -> bool
     ensures { λ r. ⌜ r ≡ linksLower p (jobsFrom (now (ranks .entry)) []) a b ⌝ }
 {
-    is_higher(ranks, link_at(p, b), link_at(p, a))
+    let linked = p.linked;
+    is_higher(ranks, task_at(linked, b), task_at(linked, a))
 }
 
 // Of processor `k` and the best so far, the one with the lower-priority link; `Processors::LIMIT` is none so far.

@@ -21,7 +21,7 @@ use Rattle.protocol.specs.Sound.{clockSound, timesSound, requestsSound}
 use Rattle.protocol.specs.declared.Task.{Task}
 use Rattle.protocol.specs.declared.State.{State}
 use Rattle.priorities.specs.Bounds.{latest, isBounded}
-use Rattle.priorities.proofs.Telling.{jobs-ruled}
+use Rattle.priorities.proofs.Ruled.{jobs-ruled}
 use Rattle.soundness.specs.Parts.{frameSound, ViewIsRuled}
 
 pub tidy-len : (q : Queue) → isTidy q ≡ true → q .len ≤ capacity

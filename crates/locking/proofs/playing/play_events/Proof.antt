@@ -150,7 +150,7 @@ answered c = c .before .judge-parts .ensures _ (has-parts (c .before))
 goes-on : (c : tie.Joined2 Inv-loop μ-loop) → Keeps (step (reached (c .before .before .before .before .before .before)) ((c .before .before .before .before .event-at) .result) .state) (c .if2 .clock) (c .if2 .tasks) (c .if2 .groups) (c .if2 .p) (c .if2 .totals) (c .if2 .kept .own) (c .if2 .kept .modes) (c .if2 .kept .stands)
 goes-on c =
     ⊎-elim
-    (λ w. rw (w .23, w .24, w .25, w .26, w .27 ∙ w .4 .ensures, w .28) (handed-on (record { before = record { before = record { before = record { before = record { before = record { before = record { before = record { before = record { before = record { before = record { before = record { before = record { before = record { before = record { before = record { before = record { before = record { before = record { before = record { before = record { before = record { before = record { before = c .before; if2 = w .0 }; step-to = w .1 }; stands = w .2 }; totals = w .3 }; charge = w .4 }; totals2 = w .5 }; place-in = w .6 }; held = w .7 }; due-at = w .8 }; edited = w .9 }; mine = w .10 }; group = w .11 }; keep = w .12 }; moved = w .13 }; struct-known2 = w .14 }; if3 = w .15 }; struct-known3 = w .16 }; waits = w .17 }; hand-over = w .18 }; heir = w .19 }; line = w .20 }; keep2 = w .21 }; moved2 = w .22 })))
+    (λ w. rw (w .23, w .24, w .25, w .26, w .27 ∙ w .4 .ensures, w .28) (handed-on (record { before = record { before = record { before = record { before = record { before = record { before = record { before = record { before = record { before = record { before = record { before = record { before = record { before = record { before = record { before = record { before = record { before = record { before = record { before = record { before = record { before = record { before = record { before = c .before; if2 = w .0 }; step-to = w .1 }; stands = w .2 }; totals = w .3 }; charge = w .4 }; totals2 = w .5 }; place-in = w .6 }; held = w .7 }; due-at = w .8 }; edited = w .9 }; mine = w .10 }; group = w .11 }; keep = w .12 }; moved = w .13 }; struct-known2 = w .14 }; if3 = w .15 }; struct-known3 = w .16 }; waits = w .17 }; hand-over = w .18 }; heir = w .19 }; passed = w .20 }; keep2 = w .21 }; moved2 = w .22 })))
     (⊎-elim
     (λ w. rw (w .16, w .17, w .18, w .19, w .20 ∙ w .4 .ensures, w .21) (ended-on (record { before = record { before = record { before = record { before = record { before = record { before = record { before = record { before = record { before = record { before = record { before = record { before = record { before = record { before = record { before = record { before = c .before; if2 = w .0 }; step-to = w .1 }; stands = w .2 }; totals = w .3 }; charge = w .4 }; totals2 = w .5 }; place-in = w .6 }; held = w .7 }; due-at = w .8 }; edited = w .9 }; mine = w .10 }; group = w .11 }; keep = w .12 }; moved = w .13 }; struct-known2 = w .14 }; if3 = w .15 })))
     (λ w. rw (w .1, w .2, w .3, w .4, w .5, w .6, refused-stays (reached (c .before .before .before .before .before .before)) ((c .before .before .before .before .event-at) .result) (λ q. w .0 .left (answered c ∙ q))) ((c .before .before .before .before .before .before .loop) .inv .2)))

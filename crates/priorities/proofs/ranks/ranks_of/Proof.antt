@@ -14,7 +14,7 @@ use Rattle.protocol.specs.Records.{noGroup}
 use Rattle.protocol.specs.declared.Group.{Group}
 use Rattle.states.proofs.Tables.{group-read}
 use Rattle.priorities.specs.Bounds.{rankBefore}
-use Rattle.priorities.proofs.Telling.{rankFrom, raising, passing}
+use Rattle.priorities.proofs.Ruled.{rankFrom, raising, passing}
 use Rattle.priorities.proofs.ranks.ranks_of.Statement.{statement}
 use Rattle.priorities.proofs.ranks.ranks_of.Tie as tie
 
