@@ -31,9 +31,10 @@ use Rattle.pages.specs.declared.Page.{Page}
 abbrev pub wide : ℕ
 wide = 18446744073709551616
 
--- the lines of the first of some events, from their snapshots `line`, numbered on from `events`
+-- the lines of the first of some events, from their snapshots, numbered on from `events`
 abbrev pub eventsText : (ℕ → List ℕ) → ℕ → ℕ → ℕ → List ℕ
-eventsText line processors events = eachText (λ n. eventText ((events + suc n) % wide) processors (line n))
+eventsText snapshot processors events =
+    eachText (λ n. eventText ((events + suc n) % wide) processors (snapshot n))
 
 -- snapshot n of those written one after another
 abbrev pub snapshotIn : List ℕ → ℕ → List ℕ
