@@ -1,9 +1,10 @@
 /* Writes a random block file to standard output:
-   generate SEED BLOCKS [large [PROCESSORS TASKS]], or generate SEED BLOCKS small.
+   generate SEED BLOCKS [large [PROCESSORS TASKS [short | long]]], or generate SEED BLOCKS small.
    large: a good set-up and BLOCKS full blocks of events, most of them accepted.
    small: a small set-up with much contention and up to BLOCKS blocks of events; some files with a fault.
    The same words give the same file. PROCESSORS and TASKS take the place of the numbers drawn for them;
-   the start and the resources of the set-up are those of the file without them. */
+   the start and the resources of the set-up are those of the file without them. With short or long, all
+   resources are of that kind: with short ones no job is ever suspended, with long ones many are. */
 #include <stdio.h>
 #include <stdlib.h>
 #include <string.h>
@@ -93,9 +94,18 @@ static void draw_periods(struct setup *setup, unsigned digits)
         setup->period[t] = chance(2) ? between(60000, 65535) : 1 + below(bit(between(2, digits)));
 }
 
-/* Numbers that are asked for; 0 leaves the one that is drawn. */
+/* All periods are one of two, so that deadlines are often equal: the lower task number is then higher. */
+static void draw_two_periods(struct setup *setup)
+{
+    for (unsigned t = 2; t < setup->tasks; t++)
+        setup->period[t] = setup->period[below(2)];
+}
+
+/* What is asked for; a number of 0 leaves the one that is drawn. */
 struct asked {
     uint8_t processors, tasks;
+    bool one_kind; /* all resources are of the kind below */
+    uint8_t kind;
 };
 
 static void draw_large_setup(struct setup *setup, struct asked asked)
@@ -110,6 +120,8 @@ static void draw_large_setup(struct setup *setup, struct asked asked)
     setup->resources = between(RESOURCES_LIMIT / 4, RESOURCES_LIMIT);
     setup->start = chance(50) ? 65536 * between(1, 1000) - between(1, 300) : below(UINT32_C(1) << 30);
     draw_kinds(setup, between(20, 60));
+    if (asked.one_kind)
+        memset(setup->kind, asked.kind, setup->resources);
     draw_pairs(setup, between(0, setup->resources));
     draw_periods(setup, 9);
 }
@@ -165,6 +177,8 @@ static void draw_small_setup(struct setup *setup)
         draw_pairs(setup, below(9));
     }
     draw_periods(setup, between(6, 12));
+    if (chance(40))
+        draw_two_periods(setup);
 }
 
 /* ---- events */
@@ -584,19 +598,31 @@ static uint32_t number_in(const char *word, uint32_t limit)
     return number <= limit ? (uint32_t)number : 0;
 }
 
+/* Takes the words after `large`; false where they are wrong. */
+static bool read_asked(struct asked *asked, int words, char **word)
+{
+    if (words == 0)
+        return true;
+    if (words == 1 || words > 3)
+        return false;
+    asked->processors = number_in(word[0], PROCESSORS_LIMIT);
+    asked->tasks = number_in(word[1], TASKS_LIMIT);
+    asked->one_kind = words == 3;
+    asked->kind = words == 3 && strcmp(word[2], "long") == 0 ? LONG : SHORT;
+    bool named = words == 2 || asked->kind == LONG || strcmp(word[2], "short") == 0;
+    return asked->processors != 0 && asked->tasks != 0 && named;
+}
+
 int main(int words, char **word)
 {
+    struct asked asked = { 0 };
     bool small = words == 4 && strcmp(word[3], "small") == 0;
-    bool large = words == 3 || ((words == 4 || words == 6) && strcmp(word[3], "large") == 0);
+    bool large = words == 3
+        || (words >= 4 && strcmp(word[3], "large") == 0 && read_asked(&asked, words - 4, word + 4));
     uint32_t blocks = words >= 3 ? number_in(word[2], UINT32_MAX) : 0;
-    struct asked asked = { 0, 0 };
-    if (words == 6) {
-        asked.processors = number_in(word[4], PROCESSORS_LIMIT);
-        asked.tasks = number_in(word[5], TASKS_LIMIT);
-        large = large && asked.processors != 0 && asked.tasks != 0;
-    }
     if ((!small && !large) || blocks == 0) {
-        fprintf(stderr, "usage: generate SEED BLOCKS [large [PROCESSORS TASKS] | small]\n");
+        fprintf(stderr,
+            "usage: generate SEED BLOCKS [large [PROCESSORS TASKS [short | long]] | small]\n");
         return 2;
     }
     random_state = strtoull(word[1], NULL, 10);

@@ -46,8 +46,9 @@ enum answer {
     NOT_NEWEST = 25
 };
 
-/* The five tick totals in printed order; ABSENT is where a task without a pending job stands. */
-enum situation { RUNNING, SPINNING, LINKED, READY, SUSPENDED, ABSENT };
+/* The six tick totals in printed order: running, spinning, linked but not running, ready, direct blocking,
+   suspended otherwise. ABSENT is where a task without a pending job stands. */
+enum situation { RUNNING, SPINNING, LINKED, READY, DIRECT_BLOCKING, SUSPENDED_OTHERWISE, ABSENT };
 enum { TOTALS = ABSENT, SITUATIONS = ABSENT + 1 };
 
 struct pair {
@@ -67,9 +68,10 @@ struct event {
     uint16_t tick;
 };
 
-/* Sets of tasks, one bit for each. */
+/* Sets of tasks, one bit for each. `direct_blocking` has the suspended jobs that are among the m
+   highest-priority pending jobs, by own priority. */
 struct standing {
-    uint32_t pending, suspended, spinning, linked, running;
+    uint32_t pending, suspended, direct_blocking, spinning, linked, running;
 };
 
 /* A job's open requests, oldest first. Within a kind they are of one group, which the job holds. */
@@ -103,6 +105,7 @@ struct state {
     /* Priorities as ranks: the deadline times 256 plus the task's number; a lower rank is higher. */
     uint64_t own[TASKS_LIMIT];
     uint64_t effective[TASKS_LIMIT];
+    uint8_t higher[TASKS_LIMIT];      /* how many pending jobs are higher than a suspended one, by own */
     uint8_t running_on[TASKS_LIMIT];  /* a running job's processor */
     uint8_t waiting_for[TASKS_LIMIT]; /* the resource that a waiting job asked for */
     struct open_requests open[TASKS_LIMIT];

@@ -5,15 +5,18 @@
 #include <string.h>
 
 static uint32_t totals[TASKS_LIMIT][TOTALS];
+static uint32_t pending_ticks[TASKS_LIMIT];
 
 /* What occurred: answers by number, and events after which the named thing stood. */
 static unsigned long answers[NOT_NEWEST + 1];
 static unsigned long spinning, suspended, inheriting, queued_two, displaced, linked_waiting, nested;
+static unsigned long direct_blocking, suspended_otherwise;
 
 void self_check_begin(const struct state *state)
 {
     (void)state;
     memset(totals, 0, sizeof totals);
+    memset(pending_ticks, 0, sizeof pending_ticks);
 }
 
 void self_check_charge(const struct state *state, uint32_t ticks)
@@ -22,18 +25,48 @@ void self_check_charge(const struct state *state, uint32_t ticks)
         enum situation situation = situation_of(&state->standing, t);
         if (situation != ABSENT)
             totals[t][situation] += ticks;
+        if (has(state->standing.pending, t))
+            pending_ticks[t] += ticks;
     }
 }
 
+/* The six sum to the ticks that the task has been pending. */
 static void check_totals(const struct state *state)
 {
     for (unsigned t = 0; t < state->setup.tasks; t++) {
-        uint32_t expected[TOTALS];
+        uint32_t expected[TOTALS], sum = 0;
         memcpy(expected, state->totals[t], sizeof expected);
         enum situation situation = situation_of(&state->standing, t);
         if (situation != ABSENT)
             expected[situation] += state->clock - state->charged_to[t];
         assert(memcmp(expected, totals[t], sizeof expected) == 0);
+        for (unsigned i = 0; i < TOTALS; i++)
+            sum += expected[i];
+        assert(sum == pending_ticks[t]);
+    }
+}
+
+/* Own priorities from arrivals, periods and numbers, without the ranks that the state keeps. */
+static bool is_higher(const struct state *state, unsigned task, unsigned other)
+{
+    uint64_t deadline = (uint64_t)state->last_arrival[task] + state->setup.period[task];
+    uint64_t others = (uint64_t)state->last_arrival[other] + state->setup.period[other];
+    return deadline < others || (deadline == others && task < other);
+}
+
+/* A suspended job is in direct blocking exactly while it is one of the m highest-priority pending jobs. */
+static void check_suspended(const struct state *state)
+{
+    assert((state->standing.direct_blocking & ~state->standing.suspended) == 0);
+    for (unsigned t = 0; t < state->setup.tasks; t++) {
+        unsigned higher = 0;
+        if (!has(state->standing.suspended, t))
+            continue;
+        for (unsigned o = 0; o < state->setup.tasks; o++)
+            if (has(state->standing.pending, o) && is_higher(state, o, t))
+                higher++;
+        enum situation expected = higher < state->setup.processors ? DIRECT_BLOCKING : SUSPENDED_OTHERWISE;
+        assert(situation_of(&state->standing, t) == expected);
     }
 }
 
@@ -126,6 +159,8 @@ static void count_what_occurred(const struct state *state)
     const struct standing *standing = &state->standing;
     spinning += standing->spinning != 0;
     suspended += standing->suspended != 0;
+    direct_blocking += standing->direct_blocking != 0;
+    suspended_otherwise += (standing->suspended & ~standing->direct_blocking) != 0;
     displaced += (standing->running & ~standing->linked) != 0;
     linked_waiting += (standing->linked & ~standing->running) != 0;
     bool inherits = false, two = false, inner = false;
@@ -144,6 +179,7 @@ void self_check_state(const struct state *state, enum answer answer)
 {
     answers[answer]++;
     check_totals(state);
+    check_suspended(state);
     check_processors(state);
     check_links(state);
     check_locks(state);
@@ -158,4 +194,5 @@ void self_check_report(void)
     fprintf(stderr, "spinning %lu\nsuspended %lu\ninheriting %lu\n", spinning, suspended, inheriting);
     fprintf(stderr, "long-queue-of-two %lu\nrunning-unlinked %lu\n", queued_two, displaced);
     fprintf(stderr, "linked-not-running %lu\nnested %lu\n", linked_waiting, nested);
+    fprintf(stderr, "direct-blocking %lu\nsuspended-otherwise %lu\n", direct_blocking, suspended_otherwise);
 }

@@ -66,7 +66,7 @@ PARTS = {
         'setups': 'Sized',
         'protocol': 'Edited',
         'soundness': 'Opens',
-        'locking': 'Acting Edits Keeping Steps Totals',
+        'locking': 'Acting Edits Keeping Ranking Steps Totals',
         'scenario': 'Reads',
     },
 }

@@ -23,7 +23,7 @@ CALLS = [
     # The printed case's state on two processors, a buffer of 96 bytes: first line, event 1 answered 0, task 2.
     line('processors 2 tasks 3 start 65530'),
     line('1 0 -/- -/-'),
-    line('task 2 0 0 0 0 0'),
+    line('task 2 0 0 0 0 0 0'),
     # A buffer of 95 bytes.
     refused(36), refused(36), refused(36),
     # Task 3 is not in the table: 11, and 11 comes before 36.
@@ -38,7 +38,7 @@ CALLS = [
     line('block 1000000 refused 32'),
     line('setup refused 5'),
     line('12 19 0/0 2/-'),
-    line('task 31 4294967295 4294967295 4294967295 4294967295 4294967295'),
+    line('task 31 4294967295 4294967295 4294967295 4294967295 4294967295 4294967295'),
     refused(36), refused(36), refused(36), refused(36),
     # A block's number at an index: 65,535 at 65,535; 0 and 1 at 65,536; the last index; one above it.
     '0', '0', '32', '0', '32',
@@ -54,14 +54,14 @@ CALLS = [
 # nothing. The printed fifth line has the places. By 'Tick totals' task 0 has run from 65,530 on, task 1 from 65,532 on,
 # and task 2 has been linked but not running from 65,538 on.
 PLACES = '0/0 2/1'
-TOTALS = [(10, 0, 0, 0, 0), (8, 0, 0, 0, 0), (0, 0, 2, 0, 0)]
+TOTALS = [(10, 0, 0, 0, 0, 0), (8, 0, 0, 0, 0, 0), (0, 0, 2, 0, 0, 0)]
 MOST_32 = 2 ** 32 - 1
 MOST_64 = 2 ** 64 - 1
 
 
 def totals_text(totals):
-    """Last, per task its five totals."""
-    return ''.join(f"task {t} {' '.join(map(str, five))}\n" for t, five in enumerate(totals))
+    """Last, per task its six totals."""
+    return ''.join(f"task {t} {' '.join(map(str, six))}\n" for t, six in enumerate(totals))
 
 
 def page(text, index, events, over, kept, number=0):
@@ -83,7 +83,7 @@ class Hostile:
 # suspended, so three are runnable, whatever else is hostile. Places and totals: the document has at most 8 processors and
 # 32 tasks.
 RUNNABLE = 3
-NEVER = ((0,) * 5,) * 29
+NEVER = ((0,) * 6,) * 29
 HOSTILE = [
     Hostile('processors: set-up within the limits', places=PLACES + ' -/-' * 6),
     Hostile('tasks: set-up within the limits', totals=(*TOTALS, *NEVER)),
@@ -97,8 +97,8 @@ HOSTILE = [
     Hostile('clock and start: last arrivals between them'),
     Hostile('deadline of task 0: its last arrival plus its period'),
     Hostile('last arrival of task 0: at most the clock'),
-    Hostile('a total of task 0: sum at most clock minus start', totals=((MOST_32, 0, 0, 0, 0), *TOTALS[1:])),
-    Hostile('totals of task 0: sum at most clock minus start', totals=((MOST_32,) * 5, *TOTALS[1:])),
+    Hostile('a total of task 0: sum at most clock minus start', totals=((MOST_32, 0, 0, 0, 0, 0), *TOTALS[1:])),
+    Hostile('totals of task 0: sum at most clock minus start', totals=((MOST_32,) * 6, *TOTALS[1:])),
     Hostile('resource that task 0 waits for: waiting jobs stand in the queue of what they asked'),
     Hostile('open requests of task 1: at most 8'),
     Hostile('request 255 of task 1: within a group of which the job is holder'),
@@ -118,7 +118,7 @@ HOSTILE = [
     Hostile('holder 254 of group 31: places beyond the counts are empty'),
     Hostile('request 254 of task 31: places beyond the counts are empty'),
     Hostile('all at once', places='254/254 2/1' + ' -/-' * 5 + ' 254/254',
-            totals=((MOST_32,) * 5, *TOTALS[1:], *NEVER)),
+            totals=((MOST_32,) * 6, *TOTALS[1:], *NEVER)),
 ]
 
 
@@ -127,7 +127,7 @@ def sound_rows():
 
     Time passes to tick 9: accepted, and the state is another. The second event played has kind 255: 10.
     """
-    first, event, task = 'processors 2 tasks 3 start 65530', f'6 0 {PLACES}', 'task 0 10 0 0 0 0'
+    first, event, task = 'processors 2 tasks 3 start 65530', f'6 0 {PLACES}', 'task 0 10 0 0 0 0 0'
     return ['events 1 0 0 0 0 10 2 0', f'state 1 {RUNNABLE} {line(first)} {line(event)} {line(task)}',
             'block ' + page(f'{event}\n', 2, 6, 0, 0), 'end ' + page(totals_text(TOTALS), 1, 5, 1, 1)]
 

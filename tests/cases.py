@@ -1,13 +1,13 @@
 #!/usr/bin/env python3
-"""The edge cases of document 01, with what is expected of each.
+"""The edge cases of document 01 and of ticket 2, with what is expected of each.
 
     python3 tests/cases.py list     number and title of each case
     python3 tests/cases.py write    write the programs' inputs and outputs
     python3 tests/cases.py check    compare them with what would be written
 
 Each case is checked three ways: the lines written here by hand, the model of
-tests/model.py, and, where it names a slip, that the slip's line differs at the
-event named. The written files hold the model's output once these agree.
+tests/model.py, and, where it names a slip, that the slip's line first differs at the
+event or the task named. The written files hold the model's output once these agree.
 
 A play is the part of a scenario behind the set-up, as tests/scenario.py reads it
 and bin/make too. What is expected by hand stands in remarks that begin with `#=`:
@@ -77,7 +77,7 @@ class Case:
     def __init__(self, title, given, play, faults, moved, told):
         self.title = title
         self.moved = moved      # kinds of event in which a link moves from q to k
-        self.slips = told       # slip: the event at which its line first differs
+        self.slips = told       # slip: where its line first differs, an event's number or 'task T'
         groups, self.places, self.lines = parsed(given, play)
         blocks = blocks_of(given, groups)
         for fault in faults:
@@ -121,9 +121,16 @@ def output_of(data, session_of=Session):
     return list(printed(io.BytesIO(data), session_of))
 
 
-def event_lines(lines):
-    """The event lines by event number."""
-    return {int(line.split()[0]): line for line in lines if line[0].isdigit()}
+def named_lines(lines):
+    """The event lines by event number, then the task lines by 'task T'."""
+    named = {}
+    for line in lines:
+        first, second = line.split()[:2]
+        if first.isdigit():
+            named[int(first)] = line
+        elif first == 'task':
+            named[f'task {second}'] = line
+    return named
 
 
 def judged(one):
@@ -134,7 +141,7 @@ def judged(one):
         sessions.append(Session(payload))
         return sessions[0]
     output = output_of(one.data, kept)
-    got = event_lines(output)
+    got = named_lines(output)
     for number, line in one.places.items():
         assert got.get(number) == line, f'{one.title}: {got.get(number)} for {line}'
     for line in one.lines:
@@ -144,10 +151,10 @@ def judged(one):
     assert refused in ([], output[-1:]), f'{one.title}: a refusal is the last line'
     if one.moved is not None:
         assert sessions[0].moved_by == [EVENT_KINDS[word] for word in one.moved.split()], one.title
-    for slip, number in one.slips.items():
-        other = event_lines(output_of(one.data, slip))
-        first = next((n for n in got if other.get(n) != got[n]), None)
-        assert first == number, f'{one.title}: {slip.__name__} first differs at {first}'
+    for slip, place in one.slips.items():
+        other = named_lines(output_of(one.data, slip))
+        first = next((name for name in got if other.get(name) != got[name]), None)
+        assert first == place, f'{one.title}: {slip.__name__} first differs at {first}'
     return output
 
 
@@ -261,7 +268,7 @@ def main(command):
 # The worked cases P1 to P12
 # =====================================================================
 
-# Copied by hand from document 01's section Printing.
+# Copied by hand from document 01's section Printing; by ticket 2 each task line ends in one more 0.
 PRINTED = '''
 processors 2 tasks 3 start 65530
 1 0 0/0 -/-
@@ -272,9 +279,9 @@ processors 2 tasks 3 start 65530
 6 0 0/0 2/2
 7 19 0/0 2/2
 8 0 0/0 1/1
-task 0 13 5 0 0 0
-task 1 13 0 0 3 0
-task 2 3 0 7 0 0
+task 0 13 5 0 0 0 0
+task 1 13 0 0 3 0 0
+task 2 3 0 7 0 0 0
 '''
 
 case('P1 to P8: the printed case',
@@ -296,9 +303,9 @@ case('P9: a finish moves the link of the job linked to q, after step 4 of the pr
      request 1 0   @65535  #= 0 0/0 1/1
      arrive 2      @2      #= 0 0/0 2/1
      finish 0      @4      #= 0 2/2 1/1
-     #= task 0 10 0 0 0 0
-     #= task 1 8 0 0 0 0
-     #= task 2 0 0 2 0 0
+     #= task 0 10 0 0 0 0 0
+     #= task 1 8 0 0 0 0 0
+     #= task 2 0 0 2 0 0 0
      ''', moved='finish', told={slips.StaysOnQ: 5})
 
 case('P10: the holder of a long inherits, and the lock passes on with its completion',
@@ -309,9 +316,23 @@ case('P10: the holder of a long inherits, and the lock passes on with its comple
      request 1 0   @10  #= 0 0/0
      arrive 2      @20  #= 0 0/0
      complete 0 0  @25  #= 0 1/1
-     #= task 0 25 0 0 0 0
-     #= task 1 0 0 0 0 15
-     #= task 2 0 0 0 5 0
+     #= task 0 25 0 0 0 0 0
+     #= task 1 0 0 0 0 15 0
+     #= task 2 0 0 0 5 0 0
+     ''')
+
+# As docs/RULES.md has it. Task 1's deadline is the earliest throughout, so that all its wait is direct blocking.
+case('P10: the same, completed at the tick of the last arrival',
+     setup(1, [300, 100, 200], 'long'), '''
+     arrive 0      @0   #= 0 0/0
+     request 0 0   @0   #= 0 0/0
+     arrive 1      @10  #= 0 1/1
+     request 1 0   @10  #= 0 0/0
+     arrive 2      @20  #= 0 0/0
+     complete 0 0  @20  #= 0 1/1
+     #= task 0 20 0 0 0 0 0
+     #= task 1 0 0 0 0 10 0
+     #= task 2 0 0 0 0 0 0
      ''')
 
 case('P11: a step of 32,767 is accepted',
@@ -339,8 +360,8 @@ case('P12: pairs (2,1) and (1,0), all short, make one group',
      complete 1 1  @5  #= 20 0/0 1/1
      complete 0 2  @6  #= 0 0/0 1/1
      complete 1 1  @7  #= 0 0/0 1/1
-     #= task 0 7 0 0 0 0
-     #= task 1 3 4 0 0 0
+     #= task 0 7 0 0 0 0 0
+     #= task 1 3 4 0 0 0 0
      ''')
 
 # =====================================================================
@@ -389,8 +410,8 @@ WIDE = [1000 + t for t in range(32)]
 case('set-up: block 0 alone prints the first line and the task lines',
      setup(3, [5, 6], start=4294967295), '''
      #= processors 3 tasks 2 start 4294967295
-     #= task 0 0 0 0 0 0
-     #= task 1 0 0 0 0 0
+     #= task 0 0 0 0 0 0 0
+     #= task 1 0 0 0 0 0 0
      ''')
 
 case('set-up: one processor, one task, no resource',
@@ -400,7 +421,7 @@ case('set-up: one processor, one task, no resource',
      finish 0     @1  #= 0 -/-
      arrive 0     @1  #= 0 0/0
      finish 0     @3  #= 0 -/-
-     #= task 0 3 0 0 0 0
+     #= task 0 3 0 0 0 0 0
      ''')
 
 case('set-up: counts at their upper limits are accepted',
@@ -490,7 +511,7 @@ case('reader: the input\'s end between blocks is the normal end', ONE, '''
      pass  @1  #= 0 -/-
      block
      pass  @2  #= 0 -/-
-     #= task 1 0 0 0 0 0
+     #= task 1 0 0 0 0 0 0
      ''')
 
 case('reader: 31 for a byte of block 0 changed', ONE, '#= block 0 refused 31',
@@ -643,7 +664,7 @@ case('15: the clock at 4,294,967,295 takes a step of 0 and no step of 1, before 
      arrive 0  @0      #= 15 0/0
      finish 1  @0      #= 15 0/0
      finish 0  @65535  #= 0 -/-
-     #= task 0 1 0 0 0 0
+     #= task 0 1 0 0 0 0 0
      ''')
 
 case('16: an arrival while the job is pending, before 17 and alone',
@@ -663,7 +684,7 @@ case('17: one tick sooner than one period is refused, exactly one period is acce
      arrive 0  @150  #= 0 0/0
      finish 0  @150  #= 0 -/-
      arrive 0  @150  #= 17 -/-
-     #= task 0 10 0 0 0 0
+     #= task 0 10 0 0 0 0 0
      ''')
 
 case('17: a period of 65,535 is counted on the exact clock',
@@ -701,7 +722,7 @@ case('19: a ready job is on no processor, before 21, 22 and 25',
      finish 0      @2  #= 19 1/1
      request 0 0   @2  #= 19 1/1
      complete 0 0  @2  #= 19 1/1
-     #= task 0 1 0 0 0 0
+     #= task 0 1 0 0 0 0 0
      ''')
 
 case('19: a linked job that does not run is on no processor',
@@ -851,9 +872,9 @@ case('arrive: of equal deadlines the lower task number is higher',
      arrive 0  @0  #= 0 0/0
      finish 0  @1  #= 0 1/1
      finish 1  @1  #= 0 2/2
-     #= task 0 1 0 0 0 0
-     #= task 1 0 0 0 1 0
-     #= task 2 0 0 0 1 0
+     #= task 0 1 0 0 0 0 0
+     #= task 1 0 0 0 1 0 0
+     #= task 2 0 0 0 1 0 0
      ''')
 
 case('arrive: the lowest-priority linked job is displaced, not the running preemptable one',
@@ -863,9 +884,9 @@ case('arrive: the lowest-priority linked job is displaced, not the running preem
      request 1 0   @0  #= 0 0/0 1/1
      arrive 2      @1  #= 0 0/0 2/1   # the slip preempts 0
      complete 1 0  @3  #= 0 0/0 2/2
-     #= task 0 3 0 0 0 0
-     #= task 1 3 0 0 0 0
-     #= task 2 0 0 2 0 0
+     #= task 0 3 0 0 0 0 0
+     #= task 1 3 0 0 0 0 0
+     #= task 2 0 0 2 0 0 0
      ''', told={slips.PreemptsRunning: 4})
 
 case('arrive: the displaced job is linked but not running, so the comer does not run',
@@ -876,9 +897,9 @@ case('arrive: the displaced job is linked but not running, so the comer does not
      arrive 2      @2  #= 0 2/0   # 1 is preemptable, but does not run
      complete 0 0  @4  #= 0 2/2
      finish 2      @5  #= 0 1/1
-     #= task 0 4 0 0 1 0
-     #= task 1 0 0 1 3 0
-     #= task 2 1 0 2 0 0
+     #= task 0 4 0 0 1 0 0
+     #= task 1 0 0 1 3 0 0
+     #= task 2 1 0 2 0 0 0
      ''', told={slips.RunsDisplacing: 4})
 
 case('deadlines: 32,760 and 32,770 compare wrongly as signed 16-bit numbers',
@@ -900,9 +921,9 @@ case('deadlines: past 4,294,967,295 they are held wider',
      arrive 2  @65531  #= 0 1/1
      finish 1  @65533  #= 0 2/2   # both deadlines past the end: 2's is the earlier
      finish 2  @65535  #= 0 0/0
-     #= task 0 0 0 0 5 0
-     #= task 1 3 0 0 0 0
-     #= task 2 2 0 0 2 0
+     #= task 0 0 0 0 5 0 0
+     #= task 1 3 0 0 0 0 0
+     #= task 2 2 0 0 2 0 0
      ''', told={slips.NarrowDeadlines: 2})
 
 case('finish: the highest-priority unlinked job is linked to k and runs there',
@@ -913,8 +934,8 @@ case('finish: the highest-priority unlinked job is linked to k and runs there',
      arrive 3  @0  #= 0 0/0 1/1
      finish 1  @2  #= 0 0/0 3/3
      finish 0  @5  #= 0 2/2 3/3
-     #= task 2 0 0 0 5 0
-     #= task 3 3 0 0 2 0
+     #= task 2 0 0 0 5 0 0
+     #= task 3 3 0 0 2 0 0
      ''')
 
 case('totals: a job on a processor is running or spinning, linked or not',
@@ -928,10 +949,10 @@ case('totals: a job on a processor is running or spinning, linked or not',
      pass          @9   #= 0 2/0 3/1
      complete 0 0  @10  #= 0 2/2 3/1
      complete 1 0  @12  #= 0 2/2 3/3
-     #= task 0 10 0 0 2 0
-     #= task 1 2 10 0 0 0
-     #= task 2 2 0 9 0 0
-     #= task 3 0 0 10 0 0
+     #= task 0 10 0 0 2 0 0
+     #= task 1 2 10 0 0 0 0
+     #= task 2 2 0 9 0 0 0
+     #= task 3 0 0 10 0 0 0
      ''')
 
 case('refused events: counted in the numbers, moving neither clock nor totals',
@@ -941,7 +962,7 @@ case('refused events: counted in the numbers, moving neither clock nor totals',
      pass      @4   #= 14 0/0
      finish 0  @10  #= 0 -/-
      finish 0  @11  #= 18 -/-
-     #= task 0 5 0 0 0 0
+     #= task 0 5 0 0 0 0 0
      ''')
 
 # =====================================================================
@@ -957,8 +978,8 @@ case('short: a spinner is granted by a completion',
      complete 0 0  @3  #= 20 0/0 1/1
      complete 1 0  @5  #= 0 0/0 1/1
      complete 0 0  @6  #= 0 0/0 1/1
-     #= task 0 3 3 0 0 0
-     #= task 1 6 0 0 0 0
+     #= task 0 3 3 0 0 0 0
+     #= task 1 6 0 0 0 0 0
      ''')
 
 case('short: spinners are granted in the order they asked, not by priority',
@@ -973,8 +994,8 @@ case('short: spinners are granted in the order they asked, not by priority',
      complete 0 0  @5  #= 20 0/0 1/1 2/2
      complete 2 0  @7  #= 0 0/0 1/1 2/2
      complete 0 0  @9  #= 0 0/0 1/1 2/2
-     #= task 0 4 5 0 0 0
-     #= task 2 6 3 0 0 0
+     #= task 0 4 5 0 0 0 0
+     #= task 2 6 3 0 0 0 0
      ''')
 
 case('short: an inner completion is no more than closed',
@@ -996,8 +1017,8 @@ case('short: a spinner that becomes holder stays non-preemptable though another 
      arrive 2      @2  #= 0 0/0 2/1
      complete 0 0  @4  #= 0 0/0 2/1
      complete 1 0  @5  #= 0 0/0 2/2
-     #= task 1 2 3 0 0 0
-     #= task 2 0 0 3 0 0
+     #= task 1 2 3 0 0 0 0
+     #= task 2 0 0 3 0 0 0
      ''')
 
 # =====================================================================
@@ -1014,8 +1035,8 @@ case('long: an inner completion is no more than closed',
      complete 1 0  @4  #= 0 -/- 1/1   # 0 is not resumed
      complete 1 1  @5  #= 0 0/0 1/1
      complete 0 0  @6  #= 0 0/0 1/1
-     #= task 0 3 0 0 0 3
-     #= task 1 6 0 0 0 0
+     #= task 0 3 0 0 0 3 0
+     #= task 1 6 0 0 0 0 0
      ''')
 
 case('long: a short inside a long makes the holder non-preemptable while it is open',
@@ -1027,8 +1048,8 @@ case('long: a short inside a long makes the holder non-preemptable while it is o
      complete 0 1  @2  #= 0 1/1
      finish 1      @3  #= 0 0/0
      complete 0 0  @4  #= 0 0/0
-     #= task 0 3 0 0 1 0
-     #= task 1 1 0 1 0 0
+     #= task 0 3 0 0 1 0 0
+     #= task 1 1 0 1 0 0 0
      ''')
 
 case('long: the holder inherits before the waiter suspends',
@@ -1039,9 +1060,9 @@ case('long: the holder inherits before the waiter suspends',
      arrive 1      @2  #= 0 1/1
      request 1 0   @3  #= 0 0/0   # the slip links 2
      complete 0 0  @5  #= 0 1/1
-     #= task 0 3 0 0 2 0
-     #= task 1 1 0 0 0 2
-     #= task 2 1 0 0 3 0
+     #= task 0 3 0 0 2 0 0
+     #= task 1 1 0 0 0 2 0
+     #= task 2 1 0 0 3 0 0
      ''', told={slips.SuspendsFirst: 5})
 
 # Queue 1, 3, 2; at the completion by 0 two are still queued behind 1.
@@ -1061,11 +1082,11 @@ case('long: the inheritance is kept when the lock passes on with two still queue
      complete 3 0  @4  #= 0 2/2
      complete 2 0  @7  #= 0 2/2
      finish 2      @8  #= 0 4/4
-     #= task 0 1 0 0 7 0
-     #= task 1 1 0 0 6 1
-     #= task 2 4 0 0 0 4
-     #= task 3 2 0 0 4 2
-     #= task 4 0 0 0 8 0
+     #= task 0 1 0 0 7 0 0
+     #= task 1 1 0 0 6 0 1
+     #= task 2 4 0 0 0 4 0
+     #= task 3 2 0 0 4 0 2
+     #= task 4 0 0 0 8 0 0
      ''', told={slips.DropsInheritance: 10})
 
 case('long: a completer that no unlinked job is above keeps its link',
@@ -1075,8 +1096,8 @@ case('long: a completer that no unlinked job is above keeps its link',
      arrive 1      @0  #= 0 0/0
      complete 0 0  @1  #= 0 0/0
      finish 0      @2  #= 0 1/1
-     #= task 0 2 0 0 0 0
-     #= task 1 0 0 0 2 0
+     #= task 0 2 0 0 0 0 0
+     #= task 1 0 0 0 2 0 0
      ''')
 
 case('long: a resumed job below every linked one stays unlinked',
@@ -1088,7 +1109,7 @@ case('long: a resumed job below every linked one stays unlinked',
      arrive 2      @1  #= 0 0/0 2/2
      complete 0 0  @3  #= 0 0/0 2/2
      finish 0      @5  #= 0 1/1 2/2
-     #= task 1 1 0 0 2 2
+     #= task 1 1 0 0 2 0 2
      ''')
 
 case('long: a resumed job goes to an unlinked processor',
@@ -1099,7 +1120,7 @@ case('long: a resumed job goes to an unlinked processor',
      request 1 0   @1  #= 0 0/0 -/-
      complete 0 0  @3  #= 0 0/0 1/1
      complete 1 0  @4  #= 0 0/0 1/1
-     #= task 1 2 0 0 0 2
+     #= task 1 2 0 0 0 2 0
      ''')
 
 case('long: a resumed job takes the link of a non-preemptable one and does not run',
@@ -1112,9 +1133,9 @@ case('long: a resumed job takes the link of a non-preemptable one and does not r
      request 2 1   @1  #= 0 0/0 2/2
      complete 0 0  @2  #= 0 0/0 1/2
      complete 2 1  @4  #= 0 0/0 1/1
-     #= task 0 4 0 0 0 0
-     #= task 1 1 0 2 0 1
-     #= task 2 3 0 0 0 0
+     #= task 0 4 0 0 0 0 0
+     #= task 1 1 0 2 0 1 0
+     #= task 2 3 0 0 0 0 0
      ''')
 
 case('long: a job suspended on a holder that itself spins',
@@ -1130,9 +1151,9 @@ case('long: a job suspended on a holder that itself spins',
      complete 1 1  @5  #= 0 0/0 1/1
      complete 0 1  @6  #= 0 0/0 1/1
      complete 0 0  @7  #= 0 2/2 1/1
-     #= task 0 4 3 0 0 0
-     #= task 1 6 0 0 0 0
-     #= task 2 1 0 0 0 6
+     #= task 0 4 3 0 0 0 0
+     #= task 1 6 0 0 0 0 0
+     #= task 2 1 0 0 0 6 0
      ''')
 
 case('runs non-preemptably on q: in two finishes, the higher of two such jobs first',
@@ -1146,10 +1167,10 @@ case('runs non-preemptably on q: in two finishes, the higher of two such jobs fi
      arrive 4      @1  #= 0 0/0 4/1 3/2
      finish 0      @2  #= 0 4/4 1/1 3/2   # 1 is the higher of 1 and 2; it spins
      finish 4      @3  #= 0 3/3 1/1 2/2
-     #= task 1 0 3 0 0 0
-     #= task 2 3 0 0 0 0
-     #= task 3 0 0 2 0 0
-     #= task 4 1 0 1 0 0
+     #= task 1 0 3 0 0 0 0
+     #= task 2 3 0 0 0 0 0
+     #= task 3 0 0 2 0 0 0
+     #= task 4 1 0 1 0 0 0
      ''', moved='finish finish', told={slips.StaysOnQ: 8})
 
 case('runs non-preemptably on q: in a suspension, by the holder itself',
@@ -1160,9 +1181,9 @@ case('runs non-preemptably on q: in a suspension, by the holder itself',
      arrive 0     @0  #= 0 1/1 0/0
      arrive 2     @1  #= 0 2/1 0/0
      request 0 0  @2  #= 0 1/1 2/2
-     #= task 0 2 0 0 0 0
-     #= task 1 2 0 0 0 0
-     #= task 2 0 0 1 0 0
+     #= task 0 2 0 0 0 0 0
+     #= task 1 2 0 0 0 0 0
+     #= task 2 0 0 1 0 0 0
      ''', moved='request', told={slips.StaysOnQ: 6})
 
 case('runs non-preemptably on q: in a suspension, by another than the holder',
@@ -1187,11 +1208,362 @@ case('runs non-preemptably on q: in a long completion',
      arrive 3      @0  #= 0 0/0 3/2
      complete 0 0  @1  #= 0 3/3 1/2   # 2 is linked to q, 3 moves to k; then 1 resumes over 2
      complete 2 1  @2  #= 0 3/3 1/1
-     #= task 0 1 0 0 1 0
-     #= task 1 0 0 1 0 1
-     #= task 2 2 0 0 0 0
-     #= task 3 1 0 1 0 0
+     #= task 0 1 0 0 1 0 0
+     #= task 1 0 0 1 0 1 0
+     #= task 2 2 0 0 0 0 0
+     #= task 3 1 0 1 0 0 0
      ''', moved='complete', told={slips.StaysOnQ: 8})
+
+# =====================================================================
+# Direct blocking, as ticket 2 asks
+# =====================================================================
+
+# A rival of a suspended job is a pending job with a higher own priority. On m processors the job's ticks are direct
+# blocking while it has fewer than m rivals, else they are suspended otherwise.
+case('direct blocking: the second of the pending jobs on two processors',
+     setup(2, [300, 200, 100], 'long'), '''
+     arrive 0      @0  #= 0 0/0 -/-
+     request 0 0   @0  #= 0 0/0 -/-
+     arrive 1      @0  #= 0 0/0 1/1
+     request 1 0   @0  #= 0 0/0 -/-
+     arrive 2      @0  #= 0 0/0 2/2   # the one rival of 1
+     pass          @5  #= 0 0/0 2/2
+     complete 0 0  @7  #= 0 1/1 2/2
+     finish 2      @8  #= 0 1/1 0/0
+     #= task 0 7 0 0 1 0 0
+     #= task 1 1 0 0 0 7 0
+     #= task 2 8 0 0 0 0 0
+     ''', told={slips.SwapsTotals: 'task 1'})
+
+case('direct blocking: none for the third of the pending jobs on two processors',
+     setup(2, [200, 300, 100], 'long'), '''
+     arrive 0      @0  #= 0 0/0 -/-
+     request 0 0   @0  #= 0 0/0 -/-
+     arrive 1      @0  #= 0 0/0 1/1
+     request 1 0   @0  #= 0 0/0 -/-
+     arrive 2      @0  #= 0 0/0 2/2   # rivals of 1: the holder and 2
+     pass          @5  #= 0 0/0 2/2
+     complete 0 0  @7  #= 0 0/0 2/2   # 1 resumes, and does not run even so
+     finish 2      @8  #= 0 0/0 1/1
+     #= task 0 8 0 0 0 0 0
+     #= task 1 0 0 0 1 0 7
+     #= task 2 8 0 0 0 0 0
+     ''', told={slips.AllowsMRivals: 'task 1', slips.SwapsTotals: 'task 1'})
+
+case('direct blocking: it ends in mid-wait with a rival\'s arrival',
+     setup(2, [300, 200, 100, 150], 'long'), '''
+     arrive 0      @0   #= 0 0/0 -/-
+     request 0 0   @0   #= 0 0/0 -/-
+     arrive 1      @0   #= 0 0/0 1/1
+     request 1 0   @1   #= 0 0/0 -/-
+     arrive 2      @2   #= 0 0/0 2/2   # deadline 102: the first rival of 1
+     pass          @4   #= 0 0/0 2/2
+     arrive 3      @7   #= 0 3/3 2/2   # deadline 157: the second
+     pass          @12  #= 0 3/3 2/2
+     #= task 0 7 0 0 5 0 0
+     #= task 1 1 0 0 0 6 5
+     #= task 2 10 0 0 0 0 0
+     #= task 3 5 0 0 0 0 0
+     ''', told={slips.RanksOnce: 'task 1', slips.RanksAfter: 'task 1'})
+
+case('direct blocking: it begins in mid-wait with a rival\'s finish',
+     setup(2, [100, 200, 300], 'long'), '''
+     arrive 0      @0  #= 0 0/0 -/-
+     request 0 0   @0  #= 0 0/0 -/-
+     arrive 2      @0  #= 0 0/0 2/2
+     request 2 0   @0  #= 0 0/0 -/-
+     arrive 1      @0  #= 0 0/0 1/1   # rivals of 2: the holder and 1
+     pass          @3  #= 0 0/0 1/1
+     finish 1      @5  #= 0 0/0 -/-
+     pass          @6  #= 0 0/0 -/-
+     complete 0 0  @9  #= 0 0/0 2/2
+     #= task 0 9 0 0 0 0 0
+     #= task 1 5 0 0 0 0 0
+     #= task 2 0 0 0 0 4 5
+     ''', told={slips.RanksOnce: 'task 2', slips.RanksAfter: 'task 2'})
+
+case('direct blocking: the next job of a rival\'s task is no rival where its deadline is later',
+     setup(1, [300, 100, 60], 'long'), '''
+     arrive 0      @0   #= 0 0/0
+     request 0 0   @0   #= 0 0/0
+     arrive 1      @0   #= 0 1/1   # deadline 100
+     request 1 0   @0   #= 0 0/0
+     arrive 2      @10  #= 0 2/2   # deadline 70
+     finish 2      @15  #= 0 0/0
+     arrive 2      @70  #= 0 0/0   # deadline 130
+     pass          @80  #= 0 0/0
+     #= task 0 75 0 0 5 0 0
+     #= task 1 0 0 0 0 75 5
+     #= task 2 5 0 0 10 0 0
+     ''')
+
+case('direct blocking: of equal deadlines the lower task number is a rival',
+     setup(1, [98, 100, 300], 'long'), '''
+     arrive 2      @0  #= 0 2/2
+     request 2 0   @0  #= 0 2/2
+     arrive 1      @0  #= 0 1/1
+     request 1 0   @0  #= 0 2/2
+     arrive 0      @2  #= 0 0/0   # deadline 100, as 1's
+     pass          @6  #= 0 0/0
+     #= task 0 4 0 0 0 0 0
+     #= task 1 0 0 0 0 2 4
+     #= task 2 2 0 0 4 0 0
+     ''', told={slips.RanksByDeadline: 'task 1'})
+
+case('direct blocking: of equal deadlines the higher task number is no rival',
+     setup(1, [100, 98, 300], 'long'), '''
+     arrive 2      @0  #= 0 2/2
+     request 2 0   @0  #= 0 2/2
+     arrive 0      @0  #= 0 0/0
+     request 0 0   @0  #= 0 2/2
+     arrive 1      @2  #= 0 2/2   # deadline 100, as 0's
+     pass          @6  #= 0 2/2
+     #= task 0 0 0 0 0 6 0
+     #= task 1 0 0 0 4 0 0
+     #= task 2 6 0 0 0 0 0
+     ''', told={slips.EqualIsHigher: 'task 0'})
+
+case('direct blocking: always, with more processors than jobs',
+     setup(4, [100, 200, 300], 'long'), '''
+     arrive 0      @0  #= 0 0/0 -/- -/- -/-
+     request 0 0   @0  #= 0 0/0 -/- -/- -/-
+     arrive 2      @0  #= 0 0/0 2/2 -/- -/-
+     request 2 0   @1  #= 0 0/0 -/- -/- -/-
+     arrive 1      @2  #= 0 0/0 1/1 -/- -/-
+     pass          @5  #= 0 0/0 1/1 -/- -/-   # 2 is the lowest of all
+     complete 0 0  @8  #= 0 0/0 1/1 2/2 -/-
+     #= task 0 8 0 0 0 0 0
+     #= task 1 6 0 0 0 0 0
+     #= task 2 1 0 0 0 7 0
+     ''')
+
+# With the rivals 0 to 6 task 8 is the eighth, with 7 besides the ninth.
+SEVEN = '0/0 1/1 2/2 3/3 4/4 5/5 6/6'
+
+case('direct blocking: the eighth of the pending jobs on eight processors, then the ninth',
+     setup(8, [100] * 8 + [200, 300], 'long'), f'''
+     arrive 9      @0  #= 0 9/9 -/- -/- -/- -/- -/- -/- -/-
+     request 9 0   @0  #= 0 9/9 -/- -/- -/- -/- -/- -/- -/-
+     arrive 8      @0  #= 0 9/9 8/8 -/- -/- -/- -/- -/- -/-
+     request 8 0   @0  #= 0 9/9 -/- -/- -/- -/- -/- -/- -/-
+     arrive 0      @0  #= 0 9/9 0/0 -/- -/- -/- -/- -/- -/-
+     arrive 1      @0  #= 0 9/9 0/0 1/1 -/- -/- -/- -/- -/-
+     arrive 2      @0  #= 0 9/9 0/0 1/1 2/2 -/- -/- -/- -/-
+     arrive 3      @0  #= 0 9/9 0/0 1/1 2/2 3/3 -/- -/- -/-
+     arrive 4      @0  #= 0 9/9 0/0 1/1 2/2 3/3 4/4 -/- -/-
+     arrive 5      @0  #= 0 9/9 0/0 1/1 2/2 3/3 4/4 5/5 -/-
+     arrive 6      @0  #= 0 9/9 {SEVEN}
+     pass          @3  #= 0 9/9 {SEVEN}
+     arrive 7      @5  #= 0 7/7 {SEVEN}
+     pass          @9  #= 0 7/7 {SEVEN}
+     ''' + ''.join(f'#= task {n} 9 0 0 0 0 0\n' for n in range(7)) + '''
+     #= task 7 4 0 0 0 0 0
+     #= task 8 0 0 0 0 5 4
+     #= task 9 5 0 0 4 0 0
+     ''', told={slips.AllowsMRivals: 'task 8'})
+
+# Over [3, 8) task 0 alone is runnable. Over [8, 11) the holder 1 has 2's priority, and by its own is no rival of 2.
+case('direct blocking: a rival that is suspended itself counts, on the same lock',
+     setup(1, [300, 200, 100], 'long'), '''
+     arrive 0      @0   #= 0 0/0
+     request 0 0   @0   #= 0 0/0
+     arrive 1      @0   #= 0 1/1
+     request 1 0   @0   #= 0 0/0
+     arrive 2      @3   #= 0 2/2
+     request 2 0   @3   #= 0 0/0
+     pass          @7   #= 0 0/0
+     complete 0 0  @8   #= 0 1/1
+     complete 1 0  @11  #= 0 2/2
+     #= task 0 8 0 0 3 0 0
+     #= task 1 3 0 0 0 3 5
+     #= task 2 0 0 0 0 8 0
+     ''', told={slips.RanksRunnable: 'task 1'})
+
+# Task 4 has the rival 2, and from tick 2 on 3 as well; neither is runnable. Task 3 has the rival 2 alone: the holder 0
+# is raised to 2's priority, and by its own is the lowest of all.
+case('direct blocking: rivals that are suspended themselves count, on another lock',
+     setup(2, [500, 400, 100, 200, 300], 'long long'), '''
+     arrive 0      @0  #= 0 0/0 -/-
+     request 0 0   @0  #= 0 0/0 -/-
+     arrive 1      @0  #= 0 0/0 1/1
+     request 1 1   @0  #= 0 0/0 1/1
+     arrive 2      @0  #= 0 2/2 1/1
+     request 2 0   @0  #= 0 0/0 1/1
+     arrive 4      @0  #= 0 0/0 4/4
+     request 4 1   @0  #= 0 0/0 1/1
+     arrive 3      @2  #= 0 0/0 3/3
+     request 3 0   @2  #= 0 0/0 1/1
+     pass          @5  #= 0 0/0 1/1
+     complete 1 1  @6  #= 0 0/0 4/4
+     #= task 0 6 0 0 0 0 0
+     #= task 1 6 0 0 0 0 0
+     #= task 2 0 0 0 0 6 0
+     #= task 3 0 0 0 0 4 0
+     #= task 4 0 0 0 0 2 4
+     ''', told={slips.RanksRunnable: 'task 4', slips.RanksByEffective: 'task 3'})
+
+# From tick 1 on the holder 0 has 2's priority, which is above 1's; its own deadline is the latest.
+case('direct blocking: a holder that is raised above the waiter is no rival',
+     setup(2, [400, 200, 100], 'long'), '''
+     arrive 0      @0  #= 0 0/0 -/-
+     request 0 0   @0  #= 0 0/0 -/-
+     arrive 1      @0  #= 0 0/0 1/1
+     request 1 0   @0  #= 0 0/0 -/-
+     arrive 2      @0  #= 0 0/0 2/2
+     request 2 0   @1  #= 0 0/0 -/-
+     pass          @5  #= 0 0/0 -/-
+     complete 0 0  @6  #= 0 0/0 1/1
+     complete 1 0  @8  #= 0 2/2 1/1
+     #= task 0 8 0 0 0 0 0
+     #= task 1 2 0 0 0 6 0
+     #= task 2 1 0 0 0 7 0
+     ''', told={slips.RanksByEffective: 'task 1'})
+
+case('direct blocking: a rival that is linked but not running counts',
+     setup(1, [300, 200, 100], 'long short'), '''
+     arrive 0      @0  #= 0 0/0
+     request 0 0   @0  #= 0 0/0
+     arrive 1      @0  #= 0 1/1
+     request 1 0   @0  #= 0 0/0
+     request 0 1   @0  #= 0 0/0   # a short inside the long: non-preemptable
+     arrive 2      @3  #= 0 2/0
+     pass          @7  #= 0 2/0
+     complete 0 1  @8  #= 0 2/2
+     pass          @9  #= 0 2/2
+     #= task 0 8 0 0 1 0 0
+     #= task 1 0 0 0 0 3 6
+     #= task 2 1 0 5 0 0 0
+     ''')
+
+case('direct blocking: a rival that spins counts',
+     setup(2, [400, 300, 100, 200], 'long short'), '''
+     arrive 0      @0  #= 0 0/0 -/-
+     request 0 0   @0  #= 0 0/0 -/-
+     arrive 1      @0  #= 0 0/0 1/1
+     request 1 0   @0  #= 0 0/0 -/-
+     arrive 2      @0  #= 0 0/0 2/2
+     request 2 1   @0  #= 0 0/0 2/2
+     arrive 3      @2  #= 0 3/3 2/2
+     request 3 1   @2  #= 0 3/3 2/2
+     pass          @6  #= 0 3/3 2/2
+     #= task 0 2 0 0 4 0 0
+     #= task 1 0 0 0 0 2 4
+     #= task 2 6 0 0 0 0 0
+     #= task 3 0 4 0 0 0 0
+     ''')
+
+case('direct blocking: the ticks go by the state before the event, and a rival gone in the same tick takes none',
+     setup(2, [400, 300, 100, 200], 'long'), '''
+     arrive 0      @0  #= 0 0/0 -/-
+     request 0 0   @0  #= 0 0/0 -/-
+     arrive 1      @0  #= 0 0/0 1/1
+     request 1 0   @0  #= 0 0/0 -/-
+     arrive 2      @2  #= 0 0/0 2/2   # the first rival of 1
+     arrive 3      @5  #= 0 3/3 2/2   # the second
+     finish 3      @5  #= 0 0/0 2/2
+     complete 0 0  @8  #= 0 1/1 2/2
+     #= task 0 8 0 0 0 0 0
+     #= task 1 0 0 0 0 8 0
+     #= task 2 6 0 0 0 0 0
+     #= task 3 0 0 0 0 0 0
+     ''', told={slips.RanksAfter: 'task 1'})
+
+case('direct blocking: rivals that arrive at the very ticks at which the wait begins and ends',
+     setup(2, [100, 400, 200, 300], 'long'), '''
+     arrive 0      @0   #= 0 0/0 -/-
+     request 0 0   @0   #= 0 0/0 -/-
+     arrive 1      @0   #= 0 0/0 1/1
+     request 1 0   @3   #= 0 0/0 -/-
+     arrive 2      @3   #= 0 0/0 2/2   # rivals of 1: the holder and 2
+     finish 2      @7   #= 0 0/0 -/-
+     arrive 3      @9   #= 0 0/0 3/3   # the holder and 3, for no tick
+     complete 0 0  @9   #= 0 0/0 3/3
+     pass          @10  #= 0 0/0 3/3
+     #= task 0 10 0 0 0 0 0
+     #= task 1 3 0 0 1 2 4
+     #= task 2 4 0 0 0 0 0
+     #= task 3 1 0 0 0 0 0
+     ''', told={slips.RanksAfter: 'task 1'})
+
+case('direct blocking: refused events in mid-wait charge nothing',
+     setup(1, [300, 200, 100], 'long'), '''
+     arrive 0      @0   #= 0 0/0
+     request 0 0   @0   #= 0 0/0
+     arrive 1      @0   #= 0 1/1
+     request 1 0   @0   #= 0 0/0
+     finish 1      @3   #= 19 0/0
+     arrive 2      @5   #= 0 2/2
+     arrive 2      @7   #= 16 2/2
+     pass          @4   #= 14 2/2
+     finish 2      @10  #= 0 0/0
+     finish 2      @12  #= 18 0/0
+     complete 0 0  @13  #= 0 1/1
+     #= task 0 8 0 0 5 0 0
+     #= task 1 0 0 0 0 8 5
+     #= task 2 5 0 0 0 0 0
+     ''')
+
+# Task 1's first job waits over [0, 3), its second over [21, 25), from 22 on with a rival.
+case('direct blocking: both totals add up over the jobs of a task',
+     setup(1, [300, 20, 10], 'long'), '''
+     arrive 0      @0   #= 0 0/0
+     request 0 0   @0   #= 0 0/0
+     arrive 1      @0   #= 0 1/1
+     request 1 0   @0   #= 0 0/0
+     complete 0 0  @3   #= 0 1/1
+     complete 1 0  @4   #= 0 1/1
+     finish 1      @4   #= 0 0/0
+     request 0 0   @5   #= 0 0/0
+     arrive 1      @20  #= 0 1/1
+     request 1 0   @21  #= 0 0/0
+     arrive 2      @22  #= 0 2/2
+     pass          @25  #= 0 2/2
+     #= task 0 20 0 0 5 0 0
+     #= task 1 2 0 0 0 4 3
+     #= task 2 3 0 0 0 0 0
+     ''')
+
+# No more jobs are runnable than there are processors, so that these deadlines bear on the rank alone.
+case('direct blocking: deadlines 1, 10 and 65,535 compare wrongly as signed numbers and by signed differences',
+     setup(2, [1, 65535, 10], 'long'), '''
+     arrive 0      @0  #= 0 0/0 -/-
+     request 0 0   @0  #= 0 0/0 -/-
+     arrive 1      @0  #= 0 0/0 1/1
+     request 1 0   @0  #= 0 0/0 -/-
+     arrive 2      @0  #= 0 0/0 2/2
+     pass          @5  #= 0 0/0 2/2
+     #= task 0 5 0 0 0 0 0
+     #= task 1 0 0 0 0 0 5
+     #= task 2 5 0 0 0 0 0
+     ''', told={slips.SignedDeadlines: 'task 1', slips.SignedDifference: 'task 1'})
+
+case('direct blocking: the 16-bit tick wraps in mid-wait, and the waiter\'s deadline is past 65,535',
+     setup(1, [100, 50, 4], 'long', start=65530), '''
+     arrive 0      @65530  #= 0 0/0
+     request 0 0   @65530  #= 0 0/0
+     arrive 1      @65530  #= 0 1/1   # deadline 65,580
+     request 1 0   @65530  #= 0 0/0
+     arrive 2      @65531  #= 0 2/2   # deadline 65,535
+     pass          @5      #= 0 2/2
+     finish 2      @6      #= 0 0/0
+     pass          @8      #= 0 0/0
+     #= task 0 3 0 0 11 0 0
+     #= task 1 0 0 0 0 3 11
+     #= task 2 11 0 0 0 0 0
+     ''')
+
+case('direct blocking: deadlines past 4,294,967,295 are held wider',
+     setup(2, [5, 100, 50], 'long', start=4294967290), '''
+     arrive 0      @65530  #= 0 0/0 -/-   # deadline 4,294,967,295
+     request 0 0   @65530  #= 0 0/0 -/-
+     arrive 1      @65530  #= 0 0/0 1/1   # held in 32 bits, its deadline would be 94
+     request 1 0   @65530  #= 0 0/0 -/-
+     arrive 2      @65531  #= 0 0/0 2/2   # likewise 45
+     pass          @65535  #= 0 0/0 2/2
+     #= task 0 5 0 0 0 0 0
+     #= task 1 0 0 0 0 1 4
+     #= task 2 4 0 0 0 0 0
+     ''', told={slips.NarrowDeadlines: 'task 1'})
 
 # =====================================================================
 # Long sessions and full tables
@@ -1205,7 +1577,7 @@ case('clock: a session that wraps the 16-bit tick three times',
      pass      @10000  #= 0 0/0
      pass      @40000  #= 0 0/0
      finish 0  @1000   #= 0 -/-
-     #= task 0 132608 0 0 0 0
+     #= task 0 132608 0 0 0 0 0
      ''')
 
 case('blocks: event numbers run on over three blocks and count refused events',
@@ -1217,15 +1589,15 @@ case('blocks: event numbers run on over three blocks and count refused events',
      block
      finish 0  @9  #= 0 -/-
      pass      @9  #= 0 -/-
-     #= task 0 9 0 0 0 0
+     #= task 0 9 0 0 0 0 0
      ''')
 
 # 250 steps of 32,767 in three full blocks.
 case('totals: large, over three full blocks',
      setup(1, [5, 6]), '     arrive 0 @0  #= 0 0/0\n     arrive 1 @0  #= 0 0/0\n' + ''.join(
          f'     pass @{32767 * n % 65536}  #= 0 0/0\n' for n in range(1, 251)) + '''
-     #= task 0 8191750 0 0 0 0
-     #= task 1 0 0 0 8191750 0
+     #= task 0 8191750 0 0 0 0 0
+     #= task 1 0 0 0 8191750 0 0
      ''')
 
 
@@ -1261,9 +1633,9 @@ def full_house():
     for k in range(8):
         told(f'complete {k + 16} {2 * k}', 11)
         told(f'complete {k + 16} {2 * k + 1}', 11, k, f'{31 - k}/{31 - k}')
-    for n in range(8):          # each ran until 16 to 23 came
-        play += [f'#= task {n} 2 0 0 9 0', f'#= task {n + 8} 0 0 0 0 10',
-                 f'#= task {n + 16} 9 0 0 0 0', f'#= task {n + 24} 0 0 8 0 0']
+    for n in range(8):          # until 16 to 23 came, 0 to 7 ran, and 8 to 15 were the eight highest
+        play += [f'#= task {n} 2 0 0 9 0 0', f'#= task {n + 8} 0 0 0 0 1 9',
+                 f'#= task {n + 16} 9 0 0 0 0 0', f'#= task {n + 24} 0 0 8 0 0 0']
     return '\n'.join(play)
 
 
@@ -1303,9 +1675,9 @@ case('source 002, Figure 3: a job is blocked at its release only, T1 never',
      request 3 0   @6   #= 0 0/0 3/3
      arrive 4      @8   #= 0 0/0 4/3   # time 4: T1 again not preempted
      complete 3 0  @11  #= 0 0/0 4/4   # time 5.5
-     #= task 0 11 0 0 0 0
-     #= task 2 1 0 3 0 0
-     #= task 4 0 0 3 0 0
+     #= task 0 11 0 0 0 0 0
+     #= task 2 1 0 3 0 0 0
+     #= task 4 0 0 3 0 0 0
      ''', told={slips.PreemptsRunning: 4})
 
 # Figure 4. The text of sections 3.1 and 3.2 and the caption fix: two processors;
@@ -1326,6 +1698,9 @@ case('source 002, Figure 3: a job is blocked at its release only, T1 never',
 # T2 takes X inside Z at 5.5; T3 lets go of Z and finishes at 10; priorities T4, T3, T2, T1 downward.
 # Section 3.2's second range for T3, [7.5, 8.5), is read as [8.5, 9.5) with section
 # 3.1 and the caption; over [7.5, 8.5) T3 is suspended.
+# Every wait is direct blocking, by a job that is one of the two highest pending: T4 over
+# [5, 6) is the highest of all; T3 over [3, 3.5) is so before T4 is released, and over
+# [7.5, 8.5) the second, below T4 alone.
 case('source 002, Figure 4: short and long resources on two processors',
      setup(2, [200, 100, 60, 50], 'short short short long long long',
            [(1, 0), (5, 3), (5, 1), (4, 0)]), '''
@@ -1354,10 +1729,10 @@ case('source 002, Figure 4: short and long resources on two processors',
      complete 1 2  @19  #= 0 3/3 2/2   # time 9.5
      complete 2 5  @20  #= 0 3/3 2/2
      finish 2      @20  #= 0 3/3 1/1   # time 10
-     #= task 0 6 0 0 14 0
-     #= task 1 9 3 0 7 0               # T2 spins over [1, 2.5)
-     #= task 2 10 0 4 0 3              # T3 is blocked over [1.5, 2.5) and [8.5, 9.5)
-     #= task 3 11 0 0 0 2              # T4 is direct-blocked over [5, 6)
+     #= task 0 6 0 0 14 0 0
+     #= task 1 9 3 0 7 0 0             # T2 spins over [1, 2.5)
+     #= task 2 10 0 4 0 3 0            # T3 is blocked over [1.5, 2.5) and [8.5, 9.5), direct-blocked as above
+     #= task 3 11 0 0 0 2 0            # T4 is direct-blocked over [5, 6)
      ''', moved='complete')
 
 

@@ -1,5 +1,5 @@
 #!/usr/bin/env python3
-"""The rules of document 01, written as plainly as they can be read.
+"""The rules of document 01 with ticket 2, written as plainly as they can be read.
 
     python3 tests/model.py < FILE
 
@@ -34,8 +34,9 @@ USES = {
 ABSENT, PREEMPTABLE, HOLDS_SHORT, SPINS, SUSPENDED = (
     'absent', 'preemptable', 'holds a short', 'spins', 'suspended')
 
-# The five totals, in the order printed.
-RUNNING, SPINNING, LINKED_NOT_RUNNING, READY, SUSPENDED_TICKS = range(5)
+# The six totals, in the order printed.
+TOTALS = 6
+RUNNING, SPINNING, LINKED_NOT_RUNNING, READY, DIRECT_BLOCKING, SUSPENDED_OTHERWISE = range(TOTALS)
 
 
 class SetUp:
@@ -92,7 +93,7 @@ class Task:
         self.last_arrival = None
         self.open = []          # resources of the open requests, oldest first
         self.asked = None       # the resource a waiting job asked for
-        self.totals = [0] * 5
+        self.totals = [0] * TOTALS
         self.ticks_pending = 0  # counted apart from the totals, to compare
 
     def pending(self):
@@ -229,10 +230,18 @@ class Session(Scheduler):
     def step_to(self, tick):
         return (tick - self.clock) % 65_536
 
+    def rivals(self, t):
+        """The pending jobs with a higher own priority than this one's, suspended ones counted."""
+        return [job for job in self.jobs() if self.own_priority(job) < self.own_priority(t)]
+
+    def one_of_the_m_highest(self, t):
+        """Among all pending jobs; m is the number of processors."""
+        return len(self.rivals(t)) < self.setup.processors
+
     def total_of(self, t):
-        """Which of the five totals the ticks of this pending job go to."""
+        """Which of the six totals the ticks of this pending job go to."""
         if self.tasks[t].standing == SUSPENDED:
-            return SUSPENDED_TICKS
+            return DIRECT_BLOCKING if self.one_of_the_m_highest(t) else SUSPENDED_OTHERWISE
         if t in self.running:
             return SPINNING if self.tasks[t].standing == SPINS else RUNNING
         return LINKED_NOT_RUNNING if t in self.linked else READY
@@ -404,7 +413,7 @@ class Session(Scheduler):
                 assert self.linked[k] == job or (
                     job not in self.linked and self.non_preemptable(job)), 'linked there'
         for t, task in enumerate(self.tasks):
-            assert sum(task.totals) == task.ticks_pending, 'the five sum to the pending'
+            assert sum(task.totals) == task.ticks_pending, 'the six sum to the pending'
             assert not task.non_preemptable() or t in self.running, 'non-preemptable runs'
         for name, queue in self.queue.items():
             assert not queue or self.holder[name] is not None, 'only held groups have queues'

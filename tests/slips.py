@@ -1,10 +1,10 @@
 """Slips that look right: the model with one rule got wrong in each.
 
-A case that names a slip says at which event the slip's line first differs from
-the rule's, so that the case is known to tell the two apart.
+A case that names a slip says at which event, or at which task's totals, the slip's
+line first differs from the rule's, so that the case is known to tell the two apart.
 """
 
-from model import SUSPENDED, Session
+from model import DIRECT_BLOCKING, SUSPENDED, SUSPENDED_OTHERWISE, Session
 
 
 def signed(value, bits):
@@ -112,3 +112,82 @@ class StaysOnQ(Slip):
         super().freed(k)
         if self.moved_links > moved:
             self.running[k] = None
+
+
+# ---- the two totals of suspended jobs ----
+
+class RanksRunnable(Slip):
+    """Ranks a suspended job among the runnable jobs only."""
+
+    def rivals(self, t):
+        return [job for job in super().rivals(t) if self.runnable(job)]
+
+
+class RanksByEffective(Slip):
+    """Ranks by effective priority, so that a raised holder counts as a rival."""
+
+    def rivals(self, t):
+        return [job for job in self.jobs() if self.higher(job, t)]
+
+
+class RanksByDeadline(Slip):
+    """Ranks by deadline alone: of equal ones neither is higher."""
+
+    def rivals(self, t):
+        return [job for job in self.jobs() if self.tasks[job].deadline < self.tasks[t].deadline]
+
+
+class EqualIsHigher(Slip):
+    """Counts every other job with an equal deadline as a rival."""
+
+    def rivals(self, t):
+        return [job for job in self.jobs() if job != t and self.tasks[job].deadline <= self.tasks[t].deadline]
+
+
+class AllowsMRivals(Slip):
+    """Takes a job with m rivals for one of the m highest."""
+
+    def one_of_the_m_highest(self, t):
+        return len(self.rivals(t)) <= self.setup.processors
+
+
+class SwapsTotals(Slip):
+    """Puts direct blocking last."""
+
+    def total_of(self, t):
+        swapped = {DIRECT_BLOCKING: SUSPENDED_OTHERWISE, SUSPENDED_OTHERWISE: DIRECT_BLOCKING}
+        total = super().total_of(t)
+        return swapped.get(total, total)
+
+
+class RanksOnce(Slip):
+    """Ranks a job when it suspends, and keeps to that until it resumes."""
+
+    def __init__(self, setup):
+        super().__init__(setup)
+        self.kept = {}
+
+    def wait_suspended(self, t, resource):
+        self.kept[t] = super().one_of_the_m_highest(t)
+        super().wait_suspended(t, resource)
+
+    def one_of_the_m_highest(self, t):
+        return self.kept[t]
+
+
+class RanksAfter(Slip):
+    """Ranks a suspended job in the state after the event, not in the one before it."""
+
+    def charge(self, ticks):
+        super().charge(ticks)
+        self.charged = [(t, self.total_of(t), ticks) for t in self.jobs()
+                        if self.tasks[t].standing == SUSPENDED]
+
+    def event(self, kind, t, resource, tick):
+        self.charged = []
+        answer = super().event(kind, t, resource, tick)
+        for job, total, ticks in self.charged:
+            self.tasks[job].totals[total] -= ticks
+            after = DIRECT_BLOCKING if self.one_of_the_m_highest(job) else SUSPENDED_OTHERWISE
+            self.tasks[job].totals[after] += ticks
+        return answer

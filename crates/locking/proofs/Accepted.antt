@@ -2,6 +2,7 @@
 use Prim.Native.Nat.{ℕ, _+_, _<_, _≤_}
 use mathlib.Core.Path.{_≡_, refl, ap}
 use mathlib.Core.Bool.{Bool, true, false, not}
+use mathlib.Core.Logic.{_≢_}
 use native.Mathlib.Omega.{arith}
 use borrow.Author.Tests.{eq-eqb, ne-eqb}
 use native.Mathlib.Decide.{ℕ-discrete, decLt}
@@ -23,7 +24,7 @@ use Rattle.protocol.specs.declared.State.{State}
 use Rattle.protocol.proofs.Sound.Statements.{Sound}
 use Rattle.protocol.proofs.Sound.Reflect.{Shaped, sound-of-test}
 use Rattle.protocol.proofs.Events.Times.{charged-times}
-use Rattle.protocol.proofs.Events.Step.{event-kinds, row11, row12, grouped, steady-of, asks-of, ends-of}
+use Rattle.protocol.proofs.Events.Step.{event-kinds, row11, row12, grouped, steady-of, same-of, asks-of, ends-of}
 use Rattle.priorities.specs.Bounds.{isBounded}
 use Rattle.locking.specs.Acting.{CanPass, CanAct}
 use Rattle.locking.proofs.Bounded.{within-bounds}
@@ -98,13 +99,17 @@ module _ (s : State) (e : Event) (Q : Sound s) (ok : judge s e ≡ 0) where
   pub g-in : (asking ≤ e .kind) × (e .kind ≤ completion) → groupOf (s .setup) (e .resource) < mostResources
   g-in k = let G = grouped s e Q ok in omega (arith, G .low (e .resource) (row12 s e Q ok k), G .few-resources)
 
+  -- who asks has a job
+  pub asker-pending : e .kind ≡ asking → stand s (e .task) ≢ absent
+  asker-pending k q = omega (arith, asks-of s e Q ok k .acts .act, same-of s e Q ok (e .task) .stood, q)
+
   can-pass : (g : ℕ) → 0 < len s₁ g → CanPass s₁ g
   can-pass g l =
       let L = steady-of s e Q ok .locks in
       let u = nextAt s₁ g in
       let waits = L .groups g .queued 0 l .0 in
-      let t-in = L .tasks u .inside (λ q. absurd (omega (arith, q))) in
-      record { inside = omega (arith, t-in, grouped s e Q ok .few-tasks); room = L .tasks u .waits waits .room }
+      let pending : stand s₁ u ≢ absent = λ q. omega (arith, waits, q) in
+      record { inside = omega (arith, L .tasks u .inside pending, grouped s e Q ok .few-tasks); pending = pending; room = L .tasks u .waits waits .room }
 
   pub can-act : ((t : ℕ) → period (s .setup) t < 65536) → CanAct s₁ e
   unfolding charged

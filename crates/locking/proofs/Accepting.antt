@@ -3,15 +3,16 @@ use Prim.Native.Nat.{ℕ, _+_, _<_, _≤_, min}
 use mathlib.Core.Path.{_≡_, refl, sym, ap, _∙_, subst}
 use mathlib.Core.Bool.{Bool, true, false, _||_}
 use mathlib.Core.List.{List}
-use mathlib.Core.Logic.{_⊎_, ⊎-elim}
+use mathlib.Core.Logic.{_⊎_, inl, inr, ⊎-elim}
 use native.Mathlib.Omega.{arith}
 use native.Mathlib.Decide.{ℕ-discrete, decLt}
 use lib.ListN.{length, getD, set, length-set}
-use lib.Seq.{getD-set-same, getD-set-other}
-use borrow.Author.Tests.{eq-eqb, ne-eqb}
+use lib.Seq.{getD-set-same, getD-set-other, set-getD, set-set}
+use borrow.Author.Tests.{eq-eqb, ne-eqb, eqb-true}
 use Rattle.search.specs.Words.{if_then_else_, _is_}
 use Rattle.search.specs.Table.{table}
 use Rattle.search.proofs.Tables.{table-length}
+use Rattle.search.proofs.Tests.{tests}
 use Rattle.processors.specs.Modes.{off}
 use Rattle.processors.specs.Words.{jobsFrom, firstModes}
 use Rattle.processors.specs.declared.Jobs.{Jobs}
@@ -42,14 +43,16 @@ use Rattle.locking.specs.Acting.{CanAct}
 use Rattle.priorities.specs.Bounds.{latest, isBounded, rankBy, modeIn, rankWith}
 use Rattle.priorities.proofs.Bounding.{deadline-bounded}
 use Rattle.locking.specs.Edits.{arrive, leave, stay, becomePreemptable, giveWay, openIn, keeping, requesting, completing, editing, handing, stored, movedWith, movedBy, handed, editOf, acted}
-use Rattle.locking.specs.Totals.{CanCharge, rowOf, chargedTo}
+use Rattle.locking.specs.Ranking.{Ranked}
+use Rattle.locking.specs.Totals.{CanCharge, rowOf, totalWith, chargedTo}
 use Rattle.locking.specs.Keeping.{Keeps}
 use Rattle.locking.specs.declared.acting.Edit.{Edit}
-use Rattle.locking.proofs.Accepted.{can-act, inside, room, charges, g-in as group-in}
-use Rattle.locking.proofs.Acted.{acted-act, edit-needs, next-in, next-room, edited-deadline, handed-deadline}
-use Rattle.locking.proofs.Bounded.{put-bounded}
+use Rattle.locking.proofs.Accepted.{can-act, inside, room, charges, asker-pending, g-in as group-in}
+use Rattle.locking.proofs.Acted.{acted-act, edit-needs, next-in, next-pending, next-room, edited-deadline, handed-deadline}
+use Rattle.locking.proofs.Bounded.{within-bounds, put-bounded}
 use Rattle.locking.proofs.Totals.{counted-low}
-use Rattle.locking.proofs.Keeping.{charged-by, keeps-task, keeps-charge, keeps-store, keeps-move, keeps-jobs}
+use Rattle.locking.proofs.Keeping.{charged-by, keeps-task, keeps-stand, keeps-own, stands-long, own-long, keeps-charge, keeps-store, keeps-move, keeps-jobs}
+use Rattle.locking.proofs.Still.{still-ranked, edited-still, handed-still}
 
 -- ---- an edit takes the totals of a record along
 abbrev pub asEdit : List ℕ → Edit → Edit
@@ -125,6 +128,16 @@ heir-stays x y turn next = go (turn is giveWay)
     go true = ⊎-elim (λ q. omega (arith, q)) (λ q. omega (arith, q))
     go false = ⊎-elim (λ q. omega (arith, q)) (λ q. omega (arith, q))
 
+-- a test of the move
+pub turned : (n : ℕ) → (n is arrive || n is leave) ≡ true → (n ≡ arrive) ⊎ (n ≡ leave)
+turned n h = elim (ℕ-discrete n arrive) [
+  | yes e ↦ inl e
+  | no d ↦ inr (eqb-true _ _ (rw (ne-eqb n arrive d) at h))
+]
+
+pub unturned : (n : ℕ) → (n is arrive || n is leave) ≡ false → (n ≡ arrive → ⊥) × (n ≡ leave → ⊥)
+unturned n h = simp tests at h
+
 -- without a job no mode is runnable
 mode-off : (x : Standing) (b : Bool) → standingNo x ≡ absent → modeFor x b ≡ off
 mode-off Absent b h = refl
@@ -135,6 +148,7 @@ mode-off (Waiting (Long r)) b h = absurd (omega (arith, h))
 -- ---- an accepted event, from what is kept of a sound state; g is the place of its group
 module _ (s : State) (e : Event) (Q : Sound s) (ok : judge s e ≡ 0) (short-periods : (t : ℕ) → period (s .setup) t < 65536)
     (clock : ℕ) (ts : List Task) (gs : List Group) (p : Processors) (totals own modes stands : List ℕ) (K : Keeps s clock ts gs p totals own modes stands)
+    (ahead : List ℕ) (R : Ranked stands own (s .setup .tasks) ahead)
     (g : ℕ) (g-in : g < mostResources) (g-is : (asking ≤ e .kind) × (e .kind ≤ completion) → g ≡ groupOf (s .setup) (e .resource)) where
   abbrev n : ℕ
   n = stepOf s e
@@ -150,7 +164,7 @@ module _ (s : State) (e : Event) (Q : Sound s) (ok : judge s e ≡ 0) (short-per
   s₁ = charged n s
 
   abbrev w : List ℕ
-  w = chargedTo p n stands totals (s .setup .tasks)
+  w = chargedTo n stands (totalWith stands ahead p) totals (s .setup .tasks)
 
   few : s .setup .tasks ≤ mostTasks
   few = grouped s e Q ok .few-tasks
@@ -161,11 +175,15 @@ module _ (s : State) (e : Event) (Q : Sound s) (ok : judge s e ≡ 0) (short-per
     | no x ↦ absurd (omega (arith, a, Q .steady .locks .tasks u .inside x))
   ]
 
-  keeps₁ : Keeps s₁ (clock + n) ts gs p w own modes stands
-  keeps₁ = keeps-charge s clock ts gs p totals own modes stands K n (s .setup .tasks) few quiet
-
   can : CanAct s₁ e
   can = can-act s e Q ok short-periods
+
+  bounded : isBounded s ≡ true
+  bounded = within-bounds s (grouped s e Q ok .few-resources)
+      (λ u l. omega (arith, deadline-bounded s₁ (can .bounded) u l, charged-by (λ (x : Task). x .deadline) (λ i m x. refl) n s u l))
+
+  keeps₁ : Keeps s₁ (clock + n) ts gs p w own modes stands
+  keeps₁ = keeps-charge s clock ts gs p totals own modes stands K n (s .setup .tasks) ahead few quiet bounded (Q .count) R
 
   t-in : t < mostTasks
   t-in = can .inside
@@ -230,13 +248,11 @@ module _ (s : State) (e : Event) (Q : Sound s) (ok : judge s e ≡ 0) (short-per
   unfolding charged
   told₂ = keeps-jobs s₂ (clock + n) ts₂ gs₂ p w own₂ modes₂ stands₂ keeps₂ (length-set (s₁ .tasks) t (editOf e g s₁ .task) ∙ tasks-long) bounded₂
 
-  moving : (d .turn ≡ leave) ⊎ (d .turn ≡ giveWay) → t < s .setup .tasks
+  -- who moves is a task
+  moving : (d .turn ≡ stay → ⊥) → t < s .setup .tasks
   moving h = elim (decLt (e .kind) passing) [
     | yes l ↦ row11 s e Q ok (event-kinds s e Q ok .0, omega arith)
-    | no l ↦
-        let k : e .kind ≡ passing = omega (arith, event-kinds s e Q ok) in
-        let z : d .turn ≡ stay = passes-still kinds (dueAt (s .setup) t (clock + n)) (clock + n) (getD ts t noTask) (getD gs g noGroup) e k in
-        absurd (⊎-elim (λ q. omega (arith, q, z)) (λ q. omega (arith, q, z)) h)
+    | no l ↦ absurd (h (passes-still kinds (dueAt (s .setup) t (clock + n)) (clock + n) (getD ts t noTask) (getD gs g noGroup) e (omega (arith, event-kinds s e Q ok))))
   ]
 
   off₂ : t < s .setup .tasks → (v : ℕ) → s .setup .tasks ≤ v → v < mostTasks → modeIn kinds (task s₂ v) ≡ off
@@ -247,7 +263,28 @@ module _ (s : State) (e : Event) (Q : Sound s) (ok : judge s e ≡ 0) (short-per
 
   pub quiet₂ : (d .turn ≡ leave) ⊎ (d .turn ≡ giveWay) → firstModes (s .setup .tasks) modes₂ ≡ modes₂
   unfolding charged
-  quiet₂ h = subst (λ (l : List ℕ). firstModes (s .setup .tasks) l ≡ l) (sym (keeps₂ .ready)) (first-all (s .setup .tasks) (λ v. modeIn kinds (task s₂ v)) (off₂ (moving h)))
+  quiet₂ h = subst (λ (l : List ℕ). firstModes (s .setup .tasks) l ≡ l) (sym (keeps₂ .ready)) (first-all (s .setup .tasks) (λ v. modeIn kinds (task s₂ v)) (off₂ (moving (λ z. ⊎-elim (λ q. omega (arith, q, z)) (λ q. omega (arith, q, z)) h))))
+
+  -- ---- who outranks whom, after the first edit
+  stand-is : getD stands t absent ≡ standingNo (getD ts t noTask .standing)
+  stand-is = keeps-stand s clock ts gs p totals own modes stands K t t-in
+
+  own-is : getD own t 0 ≡ rankBy (getD ts t noTask .deadline) t
+  own-is = keeps-own s clock ts gs p totals own modes stands K t t-in
+
+  -- the tables with the numbers that t had
+  pub ranks-before : Ranked (set stands₂ t (standingNo (getD ts t noTask .standing))) (set own₂ t (rankBy (getD ts t noTask .deadline) t)) (s .setup .tasks) ahead
+  ranks-before = rw (← stand-is, ← own-is, set-set stands t (standingNo (d .task .standing)) (getD stands t absent), set-set own t (rankBy (d .task .deadline) t) (getD own t 0), set-getD stands t absent, set-getD own t 0) R
+
+  pub comes-in : (d .turn ≡ arrive) ⊎ (d .turn ≡ leave) → t < s .setup .tasks
+  comes-in h = moving (λ z. ⊎-elim (λ q. omega (arith, q, z)) (λ q. omega (arith, q, z)) h)
+
+  -- nobody arrives, finishes or suspends
+  pub ranks-still : (d .turn ≡ arrive → ⊥) → (d .turn ≡ leave → ⊥) → Ranked stands₂ own₂ (s .setup .tasks) ahead
+  unfolding stand
+  ranks-still a b = still-ranked stands own (s .setup .tasks) t ahead (getD ts t noTask) (d .task) (omega (arith, t-in, stands-long s clock ts gs p totals own modes stands K)) stand-is own-is
+      (edited-still kinds (dueAt (s .setup) t (clock + n)) (clock + n) (getD ts t noTask) (getD gs g noGroup) e
+      (λ k q. asker-pending s e Q ok k (ap (λ (x : Task). standingNo (x .standing)) (keeps-task s clock ts gs p totals own modes stands K t t-in) ∙ q)) a b) R
 
   -- ---- the first move
   abbrev s₃ : State
@@ -342,6 +379,16 @@ module _ (s : State) (e : Event) (Q : Sound s) (ok : judge s e ≡ 0) (short-per
       unfolding charged movedBy
       told₄ = keeps-jobs s₄ (clock + n) ts₄ gs₄ p₃ w own₄ modes₄ stands₄ keeps₄ (length-set (s₃ .tasks) u _ ∙ tasks-long₃) bounded₄
 
+      -- who is handed the group was pending, and stays so
+      heir-pending : standingNo (getD ts₂ u noTask .standing) ≡ absent → ⊥
+      unfolding charged stand
+      heir-pending q = next-pending s₁ e can g g-is some₁ (ap (λ (v : ℕ). standingNo (task s₃ v .standing)) u-is ∙ ap (λ (x : Task). standingNo (x .standing)) u-read ∙ q)
+
+      pub ranks-heir : (later : List ℕ) → Ranked stands₂ own₂ (s .setup .tasks) later → Ranked stands₄ own₄ (s .setup .tasks) later
+      ranks-heir later ranks = still-ranked stands₂ own₂ (s .setup .tasks) u later (getD ts₂ u noTask) (d₄ .task) (omega (arith, u-in, stands-long s₃ (clock + n) ts₂ gs₂ p₃ w own₂ modes₂ stands₂ keeps₃))
+          (keeps-stand s₃ (clock + n) ts₂ gs₂ p₃ w own₂ modes₂ stands₂ keeps₃ u u-in) (keeps-own s₃ (clock + n) ts₂ gs₂ p₃ w own₂ modes₂ stands₂ keeps₃ u u-in)
+          (handed-still (getD ts₂ u noTask) (getD gs₂ g noGroup) (d .turn) u heir-pending) ranks
+
       abbrev s₅ : State
       s₅ = movedBy (handing (task s₃ u) (group s₃ g) (d .turn) u .turn) u s₄
 
@@ -362,16 +409,17 @@ module _ (s : State) (e : Event) (Q : Sound s) (ok : judge s e ≡ 0) (short-per
             sym (rw (ne-eqb (editOf e g s₁ .next) nobody some₁, u-is, ap (λ (z : Edit). z .turn) first-edit)) ∙ ends
 
 -- ---- the same over what the code has at hand: a set-up c, ticks, and records and tables under names of their own
-pub record Accepts (s : State) (e : Event) (c : Setup) (clock : ℕ) (ts : List Task) (gs : List Group) (p : Processors) (totals own modes stands : List ℕ) (ticks : ℕ) : Type 0 where
+pub record Accepts (s : State) (e : Event) (c : Setup) (clock : ℕ) (ts : List Task) (gs : List Group) (p : Processors) (totals own modes stands ahead : List ℕ) (ticks : ℕ) : Type 0 where
   pub sound : Sound s
   pub ok : judge s e ≡ 0
   pub given : c ≡ s .setup
   pub short : (u : ℕ) → period (s .setup) u < 65536
   pub keeps : Keeps s clock ts gs p totals own modes stands
+  pub ranked : Ranked stands own (s .setup .tasks) ahead
   pub stepped : ticks ≡ stepOf s e
 
-module _ {s : State} {e : Event} {c : Setup} {clock : ℕ} {ts : List Task} {gs : List Group} {p : Processors} {totals own modes stands : List ℕ} {ticks : ℕ}
-    (X : Accepts s e c clock ts gs p totals own modes stands ticks) where
+module _ {s : State} {e : Event} {c : Setup} {clock : ℕ} {ts : List Task} {gs : List Group} {p : Processors} {totals own modes stands ahead : List ℕ} {ticks : ℕ}
+    (X : Accepts s e c clock ts gs p totals own modes stands ahead ticks) where
   pub few-tasks : c .tasks ≤ mostTasks
   few-tasks = rw (X .given) (grouped s e (X .sound) (X .ok) .few-tasks)
 
@@ -396,29 +444,45 @@ module _ {s : State} {e : Event} {c : Setup} {clock : ℕ} {ts : List Task} {gs 
     d₂ = editing (c .kinds) (dueAt c (e .task) (clock + ticks)) (clock + ticks) (getD ts (e .task) noTask) (getD gs g noGroup) e
 
     pub may-edit : (e .kind ≡ asking → getD ts (e .task) noTask .depth < mostRequests) × (e .kind ≡ completion → (0 < getD ts (e .task) noTask .depth) × (getD ts (e .task) noTask .depth ≤ mostRequests))
-    may-edit = edit-may s e (X .sound) (X .ok) (X .short) clock ts gs p totals own modes stands (X .keeps) g g-in at
+    may-edit = edit-may s e (X .sound) (X .ok) (X .short) clock ts gs p totals own modes stands (X .keeps) ahead (X .ranked) g g-in at
 
     module _ (x : Edit) (x-is : x ≡ d₂) (ownₓ modesₓ standsₓ : List ℕ) (own-is : ownₓ ≡ set own (e .task) (rankBy (x .task .deadline) (e .task)))
         (modes-is : modesₓ ≡ set modes (e .task) (modeIn (c .kinds) (x .task))) (stands-is : standsₓ ≡ set stands (e .task) (standingNo (x .task .standing))) where
       pub may-move : (x .turn ≡ leave) ⊎ (x .turn ≡ giveWay) → firstModes (c .tasks) modesₓ ≡ modesₓ
-      may-move = rw (modes-is, x-is, X .given, X .stepped) (quiet₂ s e (X .sound) (X .ok) (X .short) clock ts gs p totals own modes stands (X .keeps) g g-in at)
+      may-move = rw (modes-is, x-is, X .given, X .stepped) (quiet₂ s e (X .sound) (X .ok) (X .short) clock ts gs p totals own modes stands (X .keeps) ahead (X .ranked) g g-in at)
+
+      -- what is asked where a job arrives, finishes or suspends
+      pub may-rank : (x .turn ≡ arrive) ⊎ (x .turn ≡ leave)
+          → (c .tasks ≤ mostTasks) × (e .task < c .tasks) × (length standsₓ ≡ mostTasks) × (length ownₓ ≡ mostTasks)
+          × Ranked (set standsₓ (e .task) (standingNo (getD ts (e .task) noTask .standing))) (set ownₓ (e .task) (rankBy (getD ts (e .task) noTask .deadline) (e .task))) (c .tasks) ahead
+      may-rank h = (
+        few-tasks,
+        rw (X .given) (comes-in s e (X .sound) (X .ok) (X .short) clock ts gs p totals own modes stands (X .keeps) ahead (X .ranked) g g-in at (rw (x-is, X .given, X .stepped) at h)),
+        ap length stands-is ∙ length-set stands (e .task) (standingNo (x .task .standing)) ∙ stands-long s clock ts gs p totals own modes stands (X .keeps),
+        ap length own-is ∙ length-set own (e .task) (rankBy (x .task .deadline) (e .task)) ∙ own-long s clock ts gs p totals own modes stands (X .keeps),
+        rw (own-is, stands-is, x-is, X .given, X .stepped) (ranks-before s e (X .sound) (X .ok) (X .short) clock ts gs p totals own modes stands (X .keeps) ahead (X .ranked) g g-in at),
+      )
+
+      -- where nobody does
+      pub ranks-stay : (x .turn ≡ arrive → ⊥) → (x .turn ≡ leave → ⊥) → Ranked standsₓ ownₓ (c .tasks) ahead
+      ranks-stay a b = rw (own-is, stands-is, x-is, X .given, X .stepped) (ranks-still s e (X .sound) (X .ok) (X .short) clock ts gs p totals own modes stands (X .keeps) ahead (X .ranked) g g-in at (rw (x-is, X .given, X .stepped) at a) (rw (x-is, X .given, X .stepped) at b))
 
       module _ (p₃ : Processors) (moves : p₃ ≡ movedWith (x .turn) p (jobsFrom (table (rankWith ownₓ (c .kinds) (min (c .resources) mostResources) (set gs g (x .group))) mostTasks) modesₓ) (e .task)) where
-        rule-moves : p₃ ≡ movedWith (d s e (X .sound) (X .ok) (X .short) clock ts gs p totals own modes stands (X .keeps) g g-in at .turn) p (jobs (s .setup) (s₂ s e (X .sound) (X .ok) (X .short) clock ts gs p totals own modes stands (X .keeps) g g-in at)) (e .task)
-        rule-moves = (rw (own-is, modes-is, x-is, X .given, X .stepped) at moves) ∙ ap (λ (j : Jobs). movedWith (d s e (X .sound) (X .ok) (X .short) clock ts gs p totals own modes stands (X .keeps) g g-in at .turn) p j (e .task)) (told₂ s e (X .sound) (X .ok) (X .short) clock ts gs p totals own modes stands (X .keeps) g g-in at)
+        rule-moves : p₃ ≡ movedWith (d s e (X .sound) (X .ok) (X .short) clock ts gs p totals own modes stands (X .keeps) ahead (X .ranked) g g-in at .turn) p (jobs (s .setup) (s₂ s e (X .sound) (X .ok) (X .short) clock ts gs p totals own modes stands (X .keeps) ahead (X .ranked) g g-in at)) (e .task)
+        rule-moves = (rw (own-is, modes-is, x-is, X .given, X .stepped) at moves) ∙ ap (λ (j : Jobs). movedWith (d s e (X .sound) (X .ok) (X .short) clock ts gs p totals own modes stands (X .keeps) ahead (X .ranked) g g-in at .turn) p j (e .task)) (told₂ s e (X .sound) (X .ok) (X .short) clock ts gs p totals own modes stands (X .keeps) ahead (X .ranked) g g-in at)
 
-        pub plays : x .next ≡ nobody → Keeps (step s e .state) (clock + ticks) (set ts (e .task) (x .task)) (set gs g (x .group)) p₃ (chargedTo p ticks stands totals (c .tasks)) ownₓ modesₓ standsₓ
+        pub plays : x .next ≡ nobody → Keeps (step s e .state) (clock + ticks) (set ts (e .task) (x .task)) (set gs g (x .group)) p₃ (chargedTo ticks stands (totalWith stands ahead p) totals (c .tasks)) ownₓ modesₓ standsₓ
         plays h = rw (own-is, modes-is, stands-is, x-is, X .given, X .stepped) (subst
-            (λ (z : State). Keeps z (clock + stepOf s e) (ts₂ s e (X .sound) (X .ok) (X .short) clock ts gs p totals own modes stands (X .keeps) g g-in at) (gs₂ s e (X .sound) (X .ok) (X .short) clock ts gs p totals own modes stands (X .keeps) g g-in at) p₃ (w s e (X .sound) (X .ok) (X .short) clock ts gs p totals own modes stands (X .keeps) g g-in at) (own₂ s e (X .sound) (X .ok) (X .short) clock ts gs p totals own modes stands (X .keeps) g g-in at) (modes₂ s e (X .sound) (X .ok) (X .short) clock ts gs p totals own modes stands (X .keeps) g g-in at) (stands₂ s e (X .sound) (X .ok) (X .short) clock ts gs p totals own modes stands (X .keeps) g g-in at))
-            (ends-there s e (X .sound) (X .ok) (X .short) clock ts gs p totals own modes stands (X .keeps) g g-in at p₃ rule-moves (rw (x-is, X .given, X .stepped) at h)) (keeps₃ s e (X .sound) (X .ok) (X .short) clock ts gs p totals own modes stands (X .keeps) g g-in at p₃ rule-moves))
+            (λ (z : State). Keeps z (clock + stepOf s e) (ts₂ s e (X .sound) (X .ok) (X .short) clock ts gs p totals own modes stands (X .keeps) ahead (X .ranked) g g-in at) (gs₂ s e (X .sound) (X .ok) (X .short) clock ts gs p totals own modes stands (X .keeps) ahead (X .ranked) g g-in at) p₃ (w s e (X .sound) (X .ok) (X .short) clock ts gs p totals own modes stands (X .keeps) ahead (X .ranked) g g-in at) (own₂ s e (X .sound) (X .ok) (X .short) clock ts gs p totals own modes stands (X .keeps) ahead (X .ranked) g g-in at) (modes₂ s e (X .sound) (X .ok) (X .short) clock ts gs p totals own modes stands (X .keeps) ahead (X .ranked) g g-in at) (stands₂ s e (X .sound) (X .ok) (X .short) clock ts gs p totals own modes stands (X .keeps) ahead (X .ranked) g g-in at))
+            (ends-there s e (X .sound) (X .ok) (X .short) clock ts gs p totals own modes stands (X .keeps) ahead (X .ranked) g g-in at p₃ rule-moves (rw (x-is, X .given, X .stepped) at h)) (keeps₃ s e (X .sound) (X .ok) (X .short) clock ts gs p totals own modes stands (X .keeps) ahead (X .ranked) g g-in at p₃ rule-moves))
 
         -- the next is handed the group
         module _ (some : x .next ≡ nobody → ⊥) where
-          some₃ : d s e (X .sound) (X .ok) (X .short) clock ts gs p totals own modes stands (X .keeps) g g-in at .next ≡ nobody → ⊥
+          some₃ : d s e (X .sound) (X .ok) (X .short) clock ts gs p totals own modes stands (X .keeps) ahead (X .ranked) g g-in at .next ≡ nobody → ⊥
           some₃ = rw (x-is, X .given, X .stepped) at some
 
           pub next-may : (x .next < mostTasks) × (getD (set ts (e .task) (x .task)) (x .next) noTask .depth < mostRequests)
-          next-may = rw (x-is, X .given, X .stepped) (u-in s e (X .sound) (X .ok) (X .short) clock ts gs p totals own modes stands (X .keeps) g g-in at p₃ rule-moves some₃, heir-may s e (X .sound) (X .ok) (X .short) clock ts gs p totals own modes stands (X .keeps) g g-in at p₃ rule-moves some₃)
+          next-may = rw (x-is, X .given, X .stepped) (u-in s e (X .sound) (X .ok) (X .short) clock ts gs p totals own modes stands (X .keeps) ahead (X .ranked) g g-in at p₃ rule-moves some₃, heir-may s e (X .sound) (X .ok) (X .short) clock ts gs p totals own modes stands (X .keeps) ahead (X .ranked) g g-in at p₃ rule-moves some₃)
 
           module _ (y : Edit) (y-is : y ≡ handing (getD (set ts (e .task) (x .task)) (x .next) noTask) (x .group) (x .turn) (x .next)) (ownᵧ modesᵧ standsᵧ : List ℕ)
               (own-is₄ : ownᵧ ≡ set ownₓ (x .next) (rankBy (y .task .deadline) (x .next))) (modes-is₄ : modesᵧ ≡ set modesₓ (x .next) (modeIn (c .kinds) (y .task)))
@@ -426,18 +490,23 @@ module _ {s : State} {e : Event} {c : Setup} {clock : ℕ} {ts : List Task} {gs 
             groups-whole : length gs ≡ mostResources
             groups-whole = ap length (X .keeps .grouped) ∙ X .sound .steady .sized .groups
 
-            y-law : y ≡ d₄ s e (X .sound) (X .ok) (X .short) clock ts gs p totals own modes stands (X .keeps) g g-in at p₃ rule-moves some₃
+            y-law : y ≡ d₄ s e (X .sound) (X .ok) (X .short) clock ts gs p totals own modes stands (X .keeps) ahead (X .ranked) g g-in at p₃ rule-moves some₃
             y-law = (rw (x-is, X .given, X .stepped) at y-is)
-                ∙ ap (λ (z : Group). handing (getD (ts₂ s e (X .sound) (X .ok) (X .short) clock ts gs p totals own modes stands (X .keeps) g g-in at) (d s e (X .sound) (X .ok) (X .short) clock ts gs p totals own modes stands (X .keeps) g g-in at .next) noTask) z (d s e (X .sound) (X .ok) (X .short) clock ts gs p totals own modes stands (X .keeps) g g-in at .turn) (d s e (X .sound) (X .ok) (X .short) clock ts gs p totals own modes stands (X .keeps) g g-in at .next)) (sym (getD-set-same gs g (d s e (X .sound) (X .ok) (X .short) clock ts gs p totals own modes stands (X .keeps) g g-in at .group) noGroup (omega (arith, groups-whole))))
+                ∙ ap (λ (z : Group). handing (getD (ts₂ s e (X .sound) (X .ok) (X .short) clock ts gs p totals own modes stands (X .keeps) ahead (X .ranked) g g-in at) (d s e (X .sound) (X .ok) (X .short) clock ts gs p totals own modes stands (X .keeps) ahead (X .ranked) g g-in at .next) noTask) z (d s e (X .sound) (X .ok) (X .short) clock ts gs p totals own modes stands (X .keeps) ahead (X .ranked) g g-in at .turn) (d s e (X .sound) (X .ok) (X .short) clock ts gs p totals own modes stands (X .keeps) ahead (X .ranked) g g-in at .next)) (sym (getD-set-same gs g (d s e (X .sound) (X .ok) (X .short) clock ts gs p totals own modes stands (X .keeps) ahead (X .ranked) g g-in at .group) noGroup (omega (arith, groups-whole))))
+
+            -- who is handed the group outranks as before
+            pub ranks-on : (later : List ℕ) → Ranked standsₓ ownₓ (c .tasks) later → Ranked standsᵧ ownᵧ (c .tasks) later
+            ranks-on later ranks = rw (own-is₄, stands-is₄, y-law, own-is, stands-is, x-is, X .given, X .stepped)
+                (ranks-heir s e (X .sound) (X .ok) (X .short) clock ts gs p totals own modes stands (X .keeps) ahead (X .ranked) g g-in at p₃ rule-moves some₃ later (rw (own-is, stands-is, x-is, X .given, X .stepped) at ranks))
 
             pub next-moves : (y .turn ≡ leave) ⊎ (y .turn ≡ giveWay) → firstModes (c .tasks) modesᵧ ≡ modesᵧ
             next-moves h = absurd (heir-stays _ _ _ _ (rw y-is at h))
 
             module _ (p₅ : Processors) (moves₅ : p₅ ≡ movedWith (y .turn) p₃ (jobsFrom (table (rankWith ownᵧ (c .kinds) (min (c .resources) mostResources) (set (set gs g (x .group)) g (y .group))) mostTasks) modesᵧ) (x .next)) where
-              rule-moves₅ : p₅ ≡ movedWith (d₄ s e (X .sound) (X .ok) (X .short) clock ts gs p totals own modes stands (X .keeps) g g-in at p₃ rule-moves some₃ .turn) p₃ (jobs (s .setup) (s₄ s e (X .sound) (X .ok) (X .short) clock ts gs p totals own modes stands (X .keeps) g g-in at p₃ rule-moves some₃)) (d s e (X .sound) (X .ok) (X .short) clock ts gs p totals own modes stands (X .keeps) g g-in at .next)
-              rule-moves₅ = (rw (own-is₄, modes-is₄, y-law, own-is, modes-is, x-is, X .given, X .stepped) at moves₅) ∙ ap (λ (j : Jobs). movedWith (d₄ s e (X .sound) (X .ok) (X .short) clock ts gs p totals own modes stands (X .keeps) g g-in at p₃ rule-moves some₃ .turn) p₃ j (d s e (X .sound) (X .ok) (X .short) clock ts gs p totals own modes stands (X .keeps) g g-in at .next)) (told₄ s e (X .sound) (X .ok) (X .short) clock ts gs p totals own modes stands (X .keeps) g g-in at p₃ rule-moves some₃)
+              rule-moves₅ : p₅ ≡ movedWith (d₄ s e (X .sound) (X .ok) (X .short) clock ts gs p totals own modes stands (X .keeps) ahead (X .ranked) g g-in at p₃ rule-moves some₃ .turn) p₃ (jobs (s .setup) (s₄ s e (X .sound) (X .ok) (X .short) clock ts gs p totals own modes stands (X .keeps) ahead (X .ranked) g g-in at p₃ rule-moves some₃)) (d s e (X .sound) (X .ok) (X .short) clock ts gs p totals own modes stands (X .keeps) ahead (X .ranked) g g-in at .next)
+              rule-moves₅ = (rw (own-is₄, modes-is₄, y-law, own-is, modes-is, x-is, X .given, X .stepped) at moves₅) ∙ ap (λ (j : Jobs). movedWith (d₄ s e (X .sound) (X .ok) (X .short) clock ts gs p totals own modes stands (X .keeps) ahead (X .ranked) g g-in at p₃ rule-moves some₃ .turn) p₃ j (d s e (X .sound) (X .ok) (X .short) clock ts gs p totals own modes stands (X .keeps) ahead (X .ranked) g g-in at .next)) (told₄ s e (X .sound) (X .ok) (X .short) clock ts gs p totals own modes stands (X .keeps) ahead (X .ranked) g g-in at p₃ rule-moves some₃)
 
-              pub plays-on : Keeps (step s e .state) (clock + ticks) (set (set ts (e .task) (x .task)) (x .next) (y .task)) (set (set gs g (x .group)) g (y .group)) p₅ (chargedTo p ticks stands totals (c .tasks)) ownᵧ modesᵧ standsᵧ
+              pub plays-on : Keeps (step s e .state) (clock + ticks) (set (set ts (e .task) (x .task)) (x .next) (y .task)) (set (set gs g (x .group)) g (y .group)) p₅ (chargedTo ticks stands (totalWith stands ahead p) totals (c .tasks)) ownᵧ modesᵧ standsᵧ
               plays-on = rw (own-is₄, modes-is₄, stands-is₄, y-law, own-is, modes-is, stands-is, x-is, X .given, X .stepped) (subst
-                  (λ (z : State). Keeps z (clock + stepOf s e) (ts₄ s e (X .sound) (X .ok) (X .short) clock ts gs p totals own modes stands (X .keeps) g g-in at p₃ rule-moves some₃) (gs₄ s e (X .sound) (X .ok) (X .short) clock ts gs p totals own modes stands (X .keeps) g g-in at p₃ rule-moves some₃) p₅ (w s e (X .sound) (X .ok) (X .short) clock ts gs p totals own modes stands (X .keeps) g g-in at) (own₄ s e (X .sound) (X .ok) (X .short) clock ts gs p totals own modes stands (X .keeps) g g-in at p₃ rule-moves some₃) (modes₄ s e (X .sound) (X .ok) (X .short) clock ts gs p totals own modes stands (X .keeps) g g-in at p₃ rule-moves some₃) (stands₄ s e (X .sound) (X .ok) (X .short) clock ts gs p totals own modes stands (X .keeps) g g-in at p₃ rule-moves some₃))
-                  (ends-handed s e (X .sound) (X .ok) (X .short) clock ts gs p totals own modes stands (X .keeps) g g-in at p₃ rule-moves some₃ p₅ rule-moves₅) (keeps₅ s e (X .sound) (X .ok) (X .short) clock ts gs p totals own modes stands (X .keeps) g g-in at p₃ rule-moves some₃ p₅ rule-moves₅))
+                  (λ (z : State). Keeps z (clock + stepOf s e) (ts₄ s e (X .sound) (X .ok) (X .short) clock ts gs p totals own modes stands (X .keeps) ahead (X .ranked) g g-in at p₃ rule-moves some₃) (gs₄ s e (X .sound) (X .ok) (X .short) clock ts gs p totals own modes stands (X .keeps) ahead (X .ranked) g g-in at p₃ rule-moves some₃) p₅ (w s e (X .sound) (X .ok) (X .short) clock ts gs p totals own modes stands (X .keeps) ahead (X .ranked) g g-in at) (own₄ s e (X .sound) (X .ok) (X .short) clock ts gs p totals own modes stands (X .keeps) ahead (X .ranked) g g-in at p₃ rule-moves some₃) (modes₄ s e (X .sound) (X .ok) (X .short) clock ts gs p totals own modes stands (X .keeps) ahead (X .ranked) g g-in at p₃ rule-moves some₃) (stands₄ s e (X .sound) (X .ok) (X .short) clock ts gs p totals own modes stands (X .keeps) ahead (X .ranked) g g-in at p₃ rule-moves some₃))
+                  (ends-handed s e (X .sound) (X .ok) (X .short) clock ts gs p totals own modes stands (X .keeps) ahead (X .ranked) g g-in at p₃ rule-moves some₃ p₅ rule-moves₅) (keeps₅ s e (X .sound) (X .ok) (X .short) clock ts gs p totals own modes stands (X .keeps) ahead (X .ranked) g g-in at p₃ rule-moves some₃ p₅ rule-moves₅))

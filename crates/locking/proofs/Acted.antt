@@ -3,6 +3,7 @@ use Prim.Native.Nat.{ℕ, _<_, _≤_}
 use mathlib.Core.Path.{_≡_, refl, sym, ap, _∙_, subst}
 use mathlib.Core.Bool.{Bool, true, false, _||_}
 use mathlib.Core.List.{List}
+use mathlib.Core.Logic.{_≢_}
 use native.Mathlib.Omega.{arith}
 use native.Mathlib.Decide.{ℕ-discrete, decLt}
 use lib.ListN.{length, getD, set, length-set}
@@ -16,7 +17,7 @@ use Rattle.input.specs.Words.{dueAt, kind}
 use Rattle.input.specs.declared.Event.{Event}
 use Rattle.setups.specs.Naming.{groupOf}
 use Rattle.protocol.specs.Records.{noTask, noGroup, withRequests, withStanding, withDepth}
-use Rattle.protocol.specs.Words.{askedOf, task, group, asked, depth, request, holder, len, waiter}
+use Rattle.protocol.specs.Words.{absent, standingNo, askedOf, task, group, stand, asked, depth, request, holder, len, waiter}
 use Rattle.protocol.specs.Locks.{opening, closing, arriving, departing, onTask, openOfKind, opens, enqueues, closes, frees, nextAt, dequeues, passes}
 use Rattle.protocol.specs.Events.{cold, arrives, leaves, becomesPreemptable, givesWay, arriveEvent, finishEvent, requestEvent, completeEvent, act}
 use Rattle.protocol.specs.declared.Standing.{Standing}
@@ -290,6 +291,16 @@ closing-depth l t u = elim (ℕ-discrete u t) [
   ])
 ]
 
+-- and each has the standing that it had
+closing-stands : (l : List Task) (t u : ℕ) → getD (set l t (closing (getD l t noTask))) u noTask .standing ≡ getD l u noTask .standing
+closing-stands l t u = elim (ℕ-discrete u t) [
+  | no n ↦ ap (λ (x : Task). x .standing) (getD-set-other l t u (closing (getD l t noTask)) noTask n)
+  | yes h ↦ subst (λ (n : ℕ). getD (set l t (closing (getD l t noTask))) n noTask .standing ≡ getD l n noTask .standing) (sym h) (elim (decLt t (length l)) [
+    | yes i ↦ ap (λ (x : Task). x .standing) (getD-set-same l t (closing (getD l t noTask)) noTask i)
+    | no o ↦ ap (λ (k : List Task). getD k t noTask .standing) (set-out l t (closing (getD l t noTask)) (omega arith))
+  ])
+]
+
 -- ---- the event of a task that may act, on the place g of its group where it has one
 module _ (s : State) (e : Event) (can : CanAct s e) where
   -- what the edit of the records needs
@@ -342,7 +353,7 @@ module _ (s : State) (e : Event) (can : CanAct s e) where
       ]
     ]
 
-  -- who is handed the group is a task with room for one request more, before and after the first part
+  -- who is handed the group is a task with a job and room for one request more, before and after the first part
   module _ (g : ℕ) (at : (asking ≤ e .kind) × (e .kind ≤ completion) → g ≡ groupOf (s .setup) (e .resource)) where
     ended-pass : e .kind ≡ completion → (ended s e g .next ≡ nobody → ⊥) → (ended s e g .next ≡ nextAt s g) × CanPass s g
     ended-pass k some = go (inner s e g) refl (ℕ-discrete (len s g) 0)
@@ -374,3 +385,13 @@ module _ (s : State) (e : Event) (can : CanAct s e) where
         subst (λ (u : ℕ). getD (set (s .tasks) (e .task) (ended s e g .task)) u noTask .depth < mostRequests) (sym (w .0))
         (subst (λ (x : Task). getD (set (s .tasks) (e .task) x) (nextAt s g) noTask .depth < mostRequests) (sym same)
         (omega (arith, closing-depth (s .tasks) (e .task) (nextAt s g), w .1 .room))))
+
+    pub next-pending : (editOf e g s .next ≡ nobody → ⊥)
+        → (let d = editOf e g s in stand (movedBy (d .turn) (e .task) (stored (e .task) g d s)) (d .next) ≢ absent)
+    unfolding movedBy stand
+    next-pending = next-by (λ (d : Edit). standingNo (getD (set (s .tasks) (e .task) (d .task)) (d .next) noTask .standing) ≢ absent) (λ k some.
+        let w = ended-pass k some in
+        let same : ended s e g .task ≡ closing (task s (e .task)) = completing-by (s .setup .kinds) (task s (e .task)) (group s g) (λ (d : Edit). d .task ≡ closing (task s (e .task))) (e .resource) (λ z turn next. refl) in
+        subst (λ (u : ℕ). standingNo (getD (set (s .tasks) (e .task) (ended s e g .task)) u noTask .standing) ≢ absent) (sym (w .0))
+        (subst (λ (x : Task). standingNo (getD (set (s .tasks) (e .task) x) (nextAt s g) noTask .standing) ≢ absent) (sym same)
+        (λ q. w .1 .pending (sym (ap standingNo (closing-stands (s .tasks) (e .task) (nextAt s g))) ∙ q))))

@@ -18,7 +18,7 @@ use Rattle.input.specs.declared.Setup.{Setup}
 use Rattle.protocol.specs.Words.{absent, standingNo, stand, task}
 use Rattle.protocol.specs.Records.{noTask, withProcessors, withTotals}
 use Rattle.protocol.specs.Ranks.{effective, jobs}
-use Rattle.protocol.specs.Situations.{situation, totalOf}
+use Rattle.protocol.specs.Situations.{totalFor}
 use Rattle.protocol.specs.Events.{counting, charged}
 use Rattle.protocol.specs.declared.Task.{Task}
 use Rattle.protocol.specs.declared.Group.{Group}
@@ -27,9 +27,11 @@ use Rattle.protocol.proofs.Sound.Reflect.{Shaped}
 use Rattle.priorities.specs.Bounds.{isBounded, rankBy, modeIn, rankWith}
 use Rattle.priorities.proofs.Ruled.{ranks-ruled, modes-ruled}
 use Rattle.locking.specs.Edits.{put}
-use Rattle.locking.specs.Totals.{allTotals, rowOf, counted, totalsIn, chargedTo}
+use Rattle.locking.specs.Ranking.{Ranked}
+use Rattle.locking.specs.Totals.{allTotals, rowOf, counted, totalsIn, totalWith, chargedTo}
 use Rattle.locking.specs.Keeping.{keptIn, Keeps}
-use Rattle.locking.proofs.Totals.{counted-start, counted-at, counted-set, counted-charged, charged-length}
+use Rattle.locking.proofs.Foremost.{total-ruled}
+use Rattle.locking.proofs.Totals.{counted-start, counted-at, counted-set, counted-charged, charged-length, with-low}
 
 totals-length : (ts : List Task) → length (totalsIn ts) ≡ allTotals
 unfolding totalsIn
@@ -53,7 +55,7 @@ pub charged-by : (f : Task → ℕ) → ((i n : ℕ) (x : Task) → f (counting 
 unfolding charged
 charged-by f keeps n s t l = ap f (table-at _ mostTasks t noTask l) ∙ go (stand s t isn't absent)
   where
-    go : (b : Bool) → f (if b then counting (totalOf (situation s t)) n (task s t) else task s t) ≡ f (task s t)
+    go : (b : Bool) → f (if b then counting (totalFor s t) n (task s t) else task s t) ≡ f (task s t)
     go true = keeps _ _ _
     go false = refl
 
@@ -83,19 +85,42 @@ module _ (s : State) (clock : ℕ) (ts : List Task) (gs : List Group) (p : Proce
   pub keeps-task : (t : ℕ) → t < mostTasks → task s t ≡ withTotals (rowOf totals t) (getD ts t noTask)
   keeps-task t l = ap (λ (l : List Task). getD l t noTask) (K .recorded) ∙ counted-at ts totals t l
 
-  pub keeps-charge : (n m : ℕ) → m ≤ mostTasks → ((t : ℕ) → m ≤ t → t < mostTasks → stand s t ≡ absent)
-      → Keeps (charged n s) (clock + n) ts gs p (chargedTo p n stands totals m) own modes stands
+  -- a task's numbers in the tables are those of its record
+  pub keeps-stand : (t : ℕ) → t < mostTasks → getD stands t absent ≡ standingNo (getD ts t noTask .standing)
+  keeps-stand t l = ap (λ (l : List ℕ). getD l t absent) (K .stood) ∙ table-at _ mostTasks t absent l ∙ ap (λ (x : Task). standingNo (x .standing)) (keeps-task t l)
+
+  pub keeps-own : (t : ℕ) → t < mostTasks → getD own t 0 ≡ rankBy (getD ts t noTask .deadline) t
+  keeps-own t l = ap (λ (l : List ℕ). getD l t 0) (K .ranked) ∙ table-at _ mostTasks t 0 l ∙ ap (λ (x : Task). rankBy (x .deadline) t) (keeps-task t l)
+
+  pub stands-long : length stands ≡ mostTasks
+  stands-long = ap length (K .stood) ∙ table-length _ mostTasks
+
+  pub own-long : length own ≡ mostTasks
+  own-long = ap length (K .ranked) ∙ table-length _ mostTasks
+
+  -- the ticks charged, by who is ahead of each suspended job
+  pub keeps-charge : (n m : ℕ) (ahead : List ℕ) → m ≤ mostTasks → ((t : ℕ) → m ≤ t → t < mostTasks → stand s t ≡ absent) → isBounded s ≡ true
+      → s .processors .count ≡ s .setup .processors → Ranked stands own m ahead
+      → Keeps (charged n s) (clock + n) ts gs p (chargedTo n stands (totalWith stands ahead p) totals m) own modes stands
   unfolding charged stand
-  keeps-charge n m few quiet = record {
+  keeps-charge n m ahead few quiet bounded count R = record {
     timed = ap (λ (x : ℕ). x + n) (K .timed);
-    recorded = counted-charged s ts totals stands n m (K .recorded) (K .all) (K .stood) few quiet ∙ ap (λ (q : Processors). counted ts (chargedTo q n stands totals m)) (sym (K .placed));
+    recorded = counted-charged s ts totals stands (totalWith stands ahead p) n m (record {
+      recorded = K .recorded;
+      whole = K .all;
+      stood = K .stood;
+      few = few;
+      quiet = quiet;
+      low = with-low stands ahead p;
+      totalled = λ t h. rw (K .placed) (total-ruled s stands own m (K .stood) (K .ranked) bounded few quiet ahead R count t h);
+    });
     grouped = K .grouped;
     placed = K .placed;
     ranked = K .ranked ∙ by-task-charged (λ t x. rankBy (x .deadline) t) (λ t i n x. refl) n s;
     ready = K .ready ∙ by-task-charged (λ t x. modeIn (s .setup .kinds) x) (λ t i n x. refl) n s;
     stood = K .stood ∙ by-task-charged (λ t x. standingNo (x .standing)) (λ t i n x. refl) n s;
     few = K .few;
-    all = charged-length p n stands totals m ∙ K .all;
+    all = charged-length n stands (totalWith stands ahead p) totals m ∙ K .all;
   }
 
   pub keeps-store : (t g : ℕ) (x : Task) (y : Group) → t < mostTasks → length (s .tasks) ≡ mostTasks

@@ -1,12 +1,15 @@
 pub mod Accepted
 pub mod Accepting
 pub mod Acted
+pub mod Ahead
 pub mod Along
 pub mod Bounded
 pub mod Branching
 pub mod Charging
+pub mod Foremost
 pub mod Keeping
 pub mod Places
 pub mod Runs
 pub mod Shapes
+pub mod Still
 pub mod Totals

@@ -25,7 +25,7 @@ use Rattle.protocol.specs.Records.{totalCount}
 use Rattle.protocol.specs.Words.{absent, spinning, suspended}
 use Rattle.protocol.specs.Situations.{situationOf, totalOf}
 use Rattle.protocol.specs.declared.Situation.the-variants.{Running, Spinning, LinkedOnly, Ready, Suspended}
-use Rattle.locking.specs.Totals.{markedBy, placeBy, totalBy}
+use Rattle.locking.specs.Totals.{markedBy, totalAwake, placeBy, totalBy}
 
 -- ---- the tasks of a list marked
 -- m is l with a place for each task among the first k of a list
@@ -81,43 +81,44 @@ marked-all place tasks l m r =
 
 -- ---- the table of all places
 pub places-all : (p : Processors)
-    → markedBy (totalOf Running) (p .running) (markedBy (totalOf LinkedOnly) (p .linked) (replicate mostTasks (totalOf Ready))) ≡ table (placeBy p) mostTasks
+    → markedBy (totalAwake Running) (p .running) (markedBy (totalAwake LinkedOnly) (p .linked) (replicate mostTasks (totalAwake Ready))) ≡ table (placeBy p) mostTasks
 unfolding linkOf runOf
 places-all p =
-    table-same (λ t. if ltb (placeOf (p .running) t) mostProcessors then totalOf Running else getD (markedBy (totalOf LinkedOnly) (p .linked) ready) t 0) (placeBy p) mostTasks
+    table-same (λ t. if ltb (placeOf (p .running) t) mostProcessors then totalAwake Running else getD (markedBy (totalAwake LinkedOnly) (p .linked) ready) t 0) (placeBy p) mostTasks
     (λ t h. rw (
-      table-at (λ t. if ltb (placeOf (p .linked) t) mostProcessors then totalOf LinkedOnly else getD ready t 0) mostTasks t 0 h,
-      getD-any ready t 0 (totalOf Ready) h,
-      replicate-at mostTasks t (totalOf Ready),
+      table-at (λ t. if ltb (placeOf (p .linked) t) mostProcessors then totalAwake LinkedOnly else getD ready t 0) mostTasks t 0 h,
+      getD-any ready t 0 (totalAwake Ready) h,
+      replicate-at mostTasks t (totalAwake Ready),
     ))
   where
     ready : List ℕ
-    ready = replicate mostTasks (totalOf Ready)
+    ready = replicate mostTasks (totalAwake Ready)
 
 -- ---- the total by the place
 pub place-low : (p : Processors) (t : ℕ) → placeBy p t < totalCount
 place-low p t = go (ltb (runOf p t) mostProcessors) (ltb (linkOf p t) mostProcessors)
   where
-    go : (a b : Bool) → (if a then totalOf Running else if b then totalOf LinkedOnly else totalOf Ready) < totalCount
+    go : (a b : Bool) → (if a then totalAwake Running else if b then totalAwake LinkedOnly else totalAwake Ready) < totalCount
     go true b = omega arith
     go false true = omega arith
     go false false = omega arith
 
-pub total-by-low : (a place : ℕ) → place < totalCount → totalBy a place < totalCount
-total-by-low a place h = go (a is suspended) (a is spinning && place is totalOf Running)
+pub total-by-low : (a place : ℕ) (foremost : Bool) → place < totalCount → totalBy a place foremost < totalCount
+total-by-low a place foremost h = go (a is suspended) (a is spinning && place is totalAwake Running) foremost
   where
-    go : (b c : Bool) → (if b then totalOf Suspended else if c then totalOf Spinning else place) < totalCount
-    go true c = omega arith
-    go false true = omega arith
-    go false false = h
+    go : (b c f : Bool) → (if b then totalOf Suspended f else if c then totalAwake Spinning else place) < totalCount
+    go true c true = omega arith
+    go true c false = omega arith
+    go false true f = omega arith
+    go false false f = h
 
-pub total-by-place : (a t : ℕ) (p : Processors) → (a ≡ absent → ⊥) → totalBy a (placeBy p t) ≡ totalOf (situationOf a p t)
-total-by-place a t p h = rw (ne-eqb a absent h) (go (a is suspended) (a is spinning) (ltb (runOf p t) mostProcessors) (ltb (linkOf p t) mostProcessors))
+pub total-by-place : (a t : ℕ) (p : Processors) (foremost : Bool) → (a ≡ absent → ⊥) → totalBy a (placeBy p t) foremost ≡ totalOf (situationOf a p t) foremost
+total-by-place a t p foremost h = rw (ne-eqb a absent h) (go (a is suspended) (a is spinning) (ltb (runOf p t) mostProcessors) (ltb (linkOf p t) mostProcessors))
   where
     go : (b c d e : Bool)
-        → (if b then totalOf Suspended else if (c && (if d then totalOf Running else if e then totalOf LinkedOnly else totalOf Ready) is totalOf Running) then totalOf Spinning
-        else if d then totalOf Running else if e then totalOf LinkedOnly else totalOf Ready)
-        ≡ totalOf (if b then Suspended else if d then (if c then Spinning else Running) else if e then LinkedOnly else Ready)
+        → (if b then totalOf Suspended foremost else if (c && (if d then totalAwake Running else if e then totalAwake LinkedOnly else totalAwake Ready) is totalAwake Running) then totalAwake Spinning
+        else if d then totalAwake Running else if e then totalAwake LinkedOnly else totalAwake Ready)
+        ≡ totalOf (if b then Suspended else if d then (if c then Spinning else Running) else if e then LinkedOnly else Ready) foremost
     go true c d e = refl
     go false true true e = refl
     go false false true e = refl

@@ -3,10 +3,11 @@
 use Prim.Native.Nat.{ℕ, zero, suc, _+_, _*_, _/_, _%_, _≤_, _<_}
 use mathlib.Core.Path.{_≡_, refl, sym, ap, _∙_}
 use mathlib.Core.Bool.{Bool, true, false}
-use mathlib.Core.List.{List, [], _∷_}
+use mathlib.Core.List.{List}
 use native.Mathlib.Decide.{ℕ-discrete, decLt}
 use native.Mathlib.Numerals.{add-one}
 use native.Mathlib.Omega.{arith}
+use lib.Dec.{ltb}
 use lib.ListN.{length, getD, set, length-set}
 use lib.Seq.{getD-set-same, getD-set-other}
 use borrow.Author.Tests.{eq-eqb, ne-eqb}
@@ -17,12 +18,13 @@ use Rattle.processors.specs.declared.Processors.{Processors}
 use Rattle.numbers.specs.Limits.{mostTasks}
 use Rattle.protocol.specs.Records.{totalCount, noTask, withTotals}
 use Rattle.protocol.specs.Words.{absent, sum, task, stand}
-use Rattle.protocol.specs.Situations.{situationOf, situation, totalOf}
+use Rattle.protocol.specs.Situations.{totalFor}
 use Rattle.protocol.specs.Events.{counting, charged}
 use Rattle.protocol.specs.declared.Task.{Task}
 use Rattle.protocol.specs.declared.State.{State}
-use Rattle.locking.specs.Totals.{allTotals, rowOf, counted, totalsIn, placeBy, addedFor, chargedBy, countsAt, chargedAt, chargedTo, CanCharge, CanChargeTask}
-use Rattle.locking.proofs.Charging.{total-low, at-sum}
+use Rattle.locking.specs.Totals.{allTotals, rowOf, counted, totalsIn, placeBy, totalBy, totalWith, addedAt, addedFor, chargedAt, chargedTo, CanCharge, CanChargeTask}
+use Rattle.protocol.proofs.Events.Times.{total-low}
+use Rattle.locking.proofs.Charging.{at-sum}
 use Rattle.locking.proofs.Places.{total-by-place}
 
 -- ---- the records with the totals of the table
@@ -104,40 +106,41 @@ added-same a j n l m k h s e f = go (a isn't absent)
     ]
 
 -- ---- an event's ticks charged
-module _ (p : Processors) (n : ℕ) (stands : List ℕ) where
-  -- a pending task counts in its own row
-  counts-low : (t : ℕ) → (getD stands t absent ≡ absent → ⊥) → totalOf (situationOf (getD stands t absent) p t) < totalCount
-  counts-low t h = total-low _ (getD stands t absent) t p _ refl refl h
+-- each pending task has a total, by whatever rule
+abbrev pub Totalled : List ℕ → (ℕ → ℕ) → Type 0
+Totalled stands total = (t : ℕ) → (getD stands t absent ≡ absent → ⊥) → total t < totalCount
 
-  pub charged-length : (w : List ℕ) (m : ℕ) → length (chargedTo p n stands w m) ≡ length w
+module _ (n : ℕ) (stands : List ℕ) (total : ℕ → ℕ) where
+  pub charged-length : (w : List ℕ) (m : ℕ) → length (chargedTo n stands total w m) ≡ length w
   unfolding chargedTo
   charged-length w zero = refl
-  charged-length w (suc m) = added-length (getD stands m absent) (countsAt p stands m) n (chargedTo p n stands w m) ∙ charged-length w m
+  charged-length w (suc m) = added-length (getD stands m absent) (totalCount * m + total m) n (chargedTo n stands total w m) ∙ charged-length w m
 
+module _ (n : ℕ) (stands : List ℕ) (total : ℕ → ℕ) (low : Totalled stands total) where
   -- the rows from m on are as they were
-  pub charged-kept : (w : List ℕ) (m k : ℕ) → totalCount * m ≤ k → getD (chargedTo p n stands w m) k 0 ≡ getD w k 0
+  pub charged-kept : (w : List ℕ) (m k : ℕ) → totalCount * m ≤ k → getD (chargedTo n stands total w m) k 0 ≡ getD w k 0
   unfolding chargedTo
   charged-kept w zero k h = refl
   charged-kept w (suc m) k h =
-      added-other (getD stands m absent) (countsAt p stands m) n (chargedTo p n stands w m) k (λ g e. absurd (omega (arith, counts-low m g, e)))
+      added-other (getD stands m absent) (totalCount * m + total m) n (chargedTo n stands total w m) k (λ g e. absurd (omega (arith, low m g, e)))
       ∙ charged-kept w m k (omega arith)
 
   -- the row of a task below m is as with its own ticks alone
   charged-own : (w : List ℕ) (m t k : ℕ) → length w ≡ allTotals → m ≤ mostTasks → t < m → totalCount * t ≤ k → k < totalCount * suc t
-      → getD (chargedTo p n stands w m) k 0 ≡ getD (chargedAt p n stands t w) k 0
+      → getD (chargedTo n stands total w m) k 0 ≡ getD (chargedAt n stands total t w) k 0
   unfolding chargedTo
   charged-own w zero t k l b h f g = absurd (omega arith)
   charged-own w (suc m) t k l b h f g =
-      let before = chargedTo p n stands w m in
+      let before = chargedTo n stands total w m in
       elim (ℕ-discrete t m) [
         | yes e ↦ rw e (last (omega (arith, e)))
-        | no d ↦ added-other (getD stands m absent) (countsAt p stands m) n before k (λ _ e. absurd (omega (arith, e))) ∙ charged-own w m t k l (omega arith) (omega arith) f g
+        | no d ↦ added-other (getD stands m absent) (totalCount * m + total m) n before k (λ _ e. absurd (omega (arith, e))) ∙ charged-own w m t k l (omega arith) (omega arith) f g
       ]
     where
-      last : totalCount * m ≤ k → getD (chargedAt p n stands m (chargedTo p n stands w m)) k 0 ≡ getD (chargedAt p n stands m w) k 0
+      last : totalCount * m ≤ k → getD (chargedAt n stands total m (chargedTo n stands total w m)) k 0 ≡ getD (chargedAt n stands total m w) k 0
       last q = elim (ℕ-discrete (getD stands m absent) absent) [
         | yes e ↦ rw (eq-eqb (getD stands m absent) absent e) (charged-kept w m k q)
-        | no d ↦ added-same (getD stands m absent) (countsAt p stands m) n (chargedTo p n stands w m) w k (omega (arith, counts-low m d, charged-length w m)) (charged-length w m) (charged-kept w m (countsAt p stands m) (omega arith)) (charged-kept w m k q)
+        | no d ↦ added-same (getD stands m absent) (totalCount * m + total m) n (chargedTo n stands total w m) w k (omega (arith, low m d, charged-length n stands total w m)) (charged-length n stands total w m) (charged-kept w m (totalCount * m + total m) (omega arith)) (charged-kept w m k q)
       ]
 
 -- a row of the table set is the row set
@@ -166,40 +169,46 @@ own-record w t a i n x l h low = elim (ℕ-discrete a absent) [
       ap (λ y. set (rowOf w t) i (y + n)) (table-at (λ j. getD w (totalCount * t + j) 0) totalCount i 0 (low d)) ∙ row-set w t i (getD w (totalCount * t + i) 0 + n) l h (low d)))
 ]
 
--- the row of a task below m
-charged-row : (p : Processors) (n : ℕ) (stands w : List ℕ) (m t : ℕ) → length w ≡ allTotals → m ≤ mostTasks → t < m
-    → rowOf (chargedAt p n stands t w) t ≡ rowOf (chargedTo p n stands w m) t
-charged-row p n stands w m t l b h =
-    table-same (λ i. getD (chargedAt p n stands t w) (totalCount * t + i) 0) (λ i. getD (chargedTo p n stands w m) (totalCount * t + i) 0) totalCount
-    (λ i g. sym (charged-own p n stands w m t (totalCount * t + i) l b h (omega arith) (omega arith)))
+module _ (n : ℕ) (stands : List ℕ) (total : ℕ → ℕ) (low : Totalled stands total) where
+  -- the row of a task below m
+  charged-row : (w : List ℕ) (m t : ℕ) → length w ≡ allTotals → m ≤ mostTasks → t < m → rowOf (chargedAt n stands total t w) t ≡ rowOf (chargedTo n stands total w m) t
+  charged-row w m t l b h =
+      table-same (λ i. getD (chargedAt n stands total t w) (totalCount * t + i) 0) (λ i. getD (chargedTo n stands total w m) (totalCount * t + i) 0) totalCount
+      (λ i g. sym (charged-own n stands total low w m t (totalCount * t + i) l b h (omega arith) (omega arith)))
 
--- that of another
-kept-row : (p : Processors) (n : ℕ) (stands w : List ℕ) (m t : ℕ) → m ≤ t → rowOf w t ≡ rowOf (chargedTo p n stands w m) t
-kept-row p n stands w m t h =
-    table-same (λ i. getD w (totalCount * t + i) 0) (λ i. getD (chargedTo p n stands w m) (totalCount * t + i) 0) totalCount
-    (λ i g. sym (charged-kept p n stands w m (totalCount * t + i) (omega arith)))
+  -- that of another
+  kept-row : (w : List ℕ) (m t : ℕ) → m ≤ t → rowOf w t ≡ rowOf (chargedTo n stands total w m) t
+  kept-row w m t h =
+      table-same (λ i. getD w (totalCount * t + i) 0) (λ i. getD (chargedTo n stands total w m) (totalCount * t + i) 0) totalCount
+      (λ i g. sym (charged-kept n stands total low w m (totalCount * t + i) (omega arith)))
 
--- each record of a state, charged
-charged-task : (s : State) (ts : List Task) (w stands : List ℕ) (n m t : ℕ) → s .tasks ≡ counted ts w → length w ≡ allTotals → stands ≡ table (stand s) mostTasks
-    → m ≤ mostTasks → ((t : ℕ) → m ≤ t → t < mostTasks → stand s t ≡ absent) → t < mostTasks
-    → (if stand s t isn't absent then counting (totalOf (situation s t)) n (task s t) else task s t) ≡ withTotals (rowOf (chargedTo (s .processors) n stands w m) t) (getD ts t noTask)
-unfolding situation
-charged-task s ts w stands n m t e l f b none h =
-    let x = getD ts t noTask in
-    let p = s .processors in
-    let own : task s t ≡ withTotals (rowOf w t) x = ap (λ (y : List Task). getD y t noTask) e ∙ counted-at ts w t h in
-    let stood : getD stands t absent ≡ stand s t = ap (λ (y : List ℕ). getD y t absent) f ∙ table-at (stand s) mostTasks t absent h in
-    elim (decLt t m) [
-      | yes g ↦ rw (own, ← stood) (own-record w t (getD stands t absent) (totalOf (situationOf (getD stands t absent) p t)) n x l h (counts-low p n stands t) ∙ ap (λ r. withTotals r x) (charged-row p n stands w m t l b g))
-      | no g ↦ rw (eq-eqb (stand s t) absent (none t (omega arith) h)) (own ∙ ap (λ r. withTotals r x) (kept-row p n stands w m t (omega arith)))
-    ]
+-- what is known of a state whose ticks are charged in the table: its records, the numbers of its standings, that no
+-- task from m on has a job, and the total of each task below m
+pub record Charging (s : State) (ts : List Task) (w stands : List ℕ) (total : ℕ → ℕ) (m : ℕ) : Type 0 where
+  pub recorded : s .tasks ≡ counted ts w
+  pub whole : length w ≡ allTotals
+  pub stood : stands ≡ table (stand s) mostTasks
+  pub few : m ≤ mostTasks
+  pub quiet : (t : ℕ) → m ≤ t → t < mostTasks → stand s t ≡ absent
+  pub low : Totalled stands total
+  pub totalled : (t : ℕ) → t < m → totalFor s t ≡ total t
 
-pub counted-charged : (s : State) (ts : List Task) (w stands : List ℕ) (n m : ℕ) → s .tasks ≡ counted ts w → length w ≡ allTotals → stands ≡ table (stand s) mostTasks
-    → m ≤ mostTasks → ((t : ℕ) → m ≤ t → t < mostTasks → stand s t ≡ absent) → charged n s .tasks ≡ counted ts (chargedTo (s .processors) n stands w m)
-unfolding charged counted
-counted-charged s ts w stands n m e l f b none =
-    table-same (λ t. if stand s t isn't absent then counting (totalOf (situation s t)) n (task s t) else task s t) (λ t. withTotals (rowOf (chargedTo (s .processors) n stands w m) t) (getD ts t noTask)) mostTasks
-    (λ t h. charged-task s ts w stands n m t e l f b none h)
+module _ (s : State) (ts : List Task) (w stands : List ℕ) (total : ℕ → ℕ) (n m : ℕ) (C : Charging s ts w stands total m) where
+  -- each record of the state, charged
+  charged-task : (t : ℕ) → t < mostTasks
+      → (if stand s t isn't absent then counting (totalFor s t) n (task s t) else task s t) ≡ withTotals (rowOf (chargedTo n stands total w m) t) (getD ts t noTask)
+  charged-task t h =
+      let x = getD ts t noTask in
+      let own : task s t ≡ withTotals (rowOf w t) x = ap (λ (y : List Task). getD y t noTask) (C .recorded) ∙ counted-at ts w t h in
+      let stood : getD stands t absent ≡ stand s t = ap (λ (y : List ℕ). getD y t absent) (C .stood) ∙ table-at (stand s) mostTasks t absent h in
+      elim (decLt t m) [
+        | yes g ↦ rw (C .totalled t g, own, ← stood) (own-record w t (getD stands t absent) (total t) n x (C .whole) h (C .low t) ∙ ap (λ r. withTotals r x) (charged-row n stands total (C .low) w m t (C .whole) (C .few) g))
+        | no g ↦ rw (eq-eqb (stand s t) absent (C .quiet t (omega arith) h)) (own ∙ ap (λ r. withTotals r x) (kept-row n stands total (C .low) w m t (omega arith)))
+      ]
+
+  pub counted-charged : charged n s .tasks ≡ counted ts (chargedTo n stands total w m)
+  unfolding charged counted
+  counted-charged = table-same (λ t. if stand s t isn't absent then counting (totalFor s t) n (task s t) else task s t) (recordIn ts (chargedTo n stands total w m)) mostTasks charged-task
 
 -- no number of the table is past a bound of each task's sum
 pub counted-low : (s : State) (ts : List Task) (w : List ℕ) → s .tasks ≡ counted ts w → (b : ℕ) → ((t : ℕ) → t < mostTasks → sum (task s t .totals) ≤ b)
@@ -213,34 +222,36 @@ counted-low s ts w e b sums k h =
     omega (arith, read, at-sum (task s t .totals) i, sums t (omega arith))
 
 -- ---- the loops of the code
--- a row read number by number
-pub row-read : (w : List ℕ) (t : ℕ) → (
-    getD w (totalCount * t) 0
-    ∷ getD w (totalCount * t + 1) 0
-    ∷ getD w (totalCount * t + 2) 0
-    ∷ getD w (totalCount * t + 3) 0
-    ∷ getD w (totalCount * t + 4) 0
-    ∷ []
-    ) ≡ rowOf w t
-unfolding table
-row-read w t =
-    let e : totalCount * t ≡ totalCount * t + 0 = omega arith in
-    ap (λ k. getD w k 0 ∷ getD w (totalCount * t + 1) 0 ∷ getD w (totalCount * t + 2) 0 ∷ getD w (totalCount * t + 3) 0 ∷ getD w (totalCount * t + 4) 0 ∷ []) e
-
-module _ (p : Processors) (n : ℕ) (stands w : List ℕ) (t : ℕ) where
+module _ (n : ℕ) (stands : List ℕ) (total : ℕ → ℕ) (w : List ℕ) (t : ℕ) where
   -- the table before task t is charged
-  pub charge-can : CanCharge w n → t < mostTasks → CanChargeTask (chargedTo p n stands w t) n t
-  charge-can can h = record {
-    whole = charged-length p n stands w t ∙ can .whole;
+  pub charge-can : Totalled stands total → CanCharge w n → t < mostTasks → CanChargeTask (chargedTo n stands total w t) n t
+  charge-can low can h = record {
+    whole = charged-length n stands total w t ∙ can .whole;
     inside = h;
-    fits = λ i g. rw (charged-kept p n stands w t (totalCount * t + i) (omega arith)) (can .fits (totalCount * t + i) (omega arith));
+    fits = λ i g. rw (charged-kept n stands total low w t (totalCount * t + i) (omega arith)) (can .fits (totalCount * t + i) (omega arith));
   }
 
-  -- and after it
-  pub charge-turn : (place : ℕ) (before after : List ℕ) → place ≡ placeBy p t → before ≡ chargedTo p n stands w t
-      → after ≡ chargedBy (getD stands t absent) place n t before → after ≡ chargedTo p n stands w (t + 1)
+  -- and after it, pending or not
+  charge-pending : (getD stands t absent ≡ absent → ⊥) → addedAt (totalCount * t + total t) n (chargedTo n stands total w t) ≡ chargedTo n stands total w (t + 1)
   unfolding chargedTo
-  charge-turn place before after e f g = rw (g, f, e, add-one t) (elim (ℕ-discrete (getD stands t absent) absent) [
-    | yes none ↦ rw (eq-eqb (getD stands t absent) absent none)
-    | no some ↦ ap (λ i. addedFor (getD stands t absent) (totalCount * t + i) n (chargedTo p n stands w t)) (total-by-place (getD stands t absent) t p some)
-  ])
+  charge-pending some = rw (add-one t, ne-eqb (getD stands t absent) absent some)
+
+  pub charge-absent : getD stands t absent ≡ absent → chargedTo n stands total w t ≡ chargedTo n stands total w (t + 1)
+  unfolding chargedTo
+  charge-absent none = rw (add-one t, eq-eqb (getD stands t absent) absent none)
+
+-- by who is ahead of each suspended job, a pending task has a total
+pub with-low : (stands ahead : List ℕ) (p : Processors) → Totalled stands (totalWith stands ahead p)
+with-low stands ahead p t h = total-low (getD stands t absent) t p _ h
+
+-- the place of a task, read off their table
+pub place-at : (p : Processors) (places : List ℕ) → places ≡ table (placeBy p) mostTasks → (t : ℕ) → t < mostTasks → getD places t 0 ≡ placeBy p t
+place-at p places e t h = ap (λ (l : List ℕ). getD l t 0) e ∙ table-at (placeBy p) mostTasks t 0 h
+
+module _ (n : ℕ) (stands ahead : List ℕ) (p : Processors) (w : List ℕ) (t : ℕ) where
+  -- a pending task charged by its place
+  pub charge-turn : (place total : ℕ) (before : List ℕ) → place ≡ placeBy p t → before ≡ chargedTo n stands (totalWith stands ahead p) w t
+      → total ≡ totalBy (getD stands t absent) place (ltb (getD ahead t 0) (p .count)) → (getD stands t absent ≡ absent → ⊥)
+      → addedAt (totalCount * t + total) n before ≡ chargedTo n stands (totalWith stands ahead p) w (t + 1)
+  charge-turn place total before e f g some =
+      rw (g, f, e, total-by-place (getD stands t absent) t p (ltb (getD ahead t 0) (p .count)) some) (charge-pending n stands (totalWith stands ahead p) w t some)

@@ -3,18 +3,20 @@
 use Prim.Native.Nat.{ℕ, _<_, _≤_}
 use mathlib.Core.Path.{_≡_}
 use mathlib.Core.Bool.{true}
+use mathlib.Core.Logic.{_≢_}
 use Rattle.numbers.specs.Limits.{mostTasks, mostResources, mostRequests}
 use Rattle.setups.specs.Naming.{groupOf}
 use Rattle.input.specs.Kinds.{request, completion}
 use Rattle.input.specs.declared.Event.{Event}
-use Rattle.protocol.specs.Words.{depth, len}
+use Rattle.protocol.specs.Words.{absent, stand, depth, len}
 use Rattle.protocol.specs.Locks.{nextAt}
 use Rattle.protocol.specs.declared.State.{State}
 use Rattle.priorities.specs.Bounds.{isBounded}
 
--- the first job in g's queue is a task's, with room for one request more
+-- the first in g's queue is a task with a job, and has room for one request more
 pub record CanPass (s : State) (g : ℕ) : Type 0 where
   pub inside : nextAt s g < mostTasks
+  pub pending : stand s (nextAt s g) ≢ absent
   pub room : depth s (nextAt s g) < mostRequests
 
 -- t is a task with room for one request more, and g is a group's place

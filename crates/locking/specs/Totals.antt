@@ -2,7 +2,7 @@
 -- in the records are out of date meanwhile.
 use Prim.Native.Nat.{ℕ, zero, suc, _+_, _*_, _/_, _%_, _≤_, _<_}
 use mathlib.Core.Path.{_≡_}
-use mathlib.Core.Bool.{_&&_}
+use mathlib.Core.Bool.{Bool, false, _&&_}
 use mathlib.Core.List.{List}
 use lib.Dec.{ltb}
 use lib.ListN.{length, getD, set}
@@ -14,6 +14,7 @@ use Rattle.processors.specs.declared.Processors.{Processors}
 use Rattle.protocol.specs.Records.{totalCount, noTask, withTotals}
 use Rattle.protocol.specs.Words.{lastClock, absent, spinning, suspended}
 use Rattle.protocol.specs.Situations.{situationOf, totalOf}
+use Rattle.protocol.specs.declared.Situation.{Situation}
 use Rattle.protocol.specs.declared.Situation.the-variants.{Running, Spinning, LinkedOnly, Ready, Suspended}
 use Rattle.protocol.specs.declared.Task.{Task}
 
@@ -38,38 +39,45 @@ abbrev pub markedBy : ℕ → List ℕ → List ℕ → List ℕ
 markedBy place tasks places =
     table (λ t. if ltb (placeOf tasks t) mostProcessors then place else getD places t 0) mostTasks
 
+-- the total of a job that is not suspended, foremost or not
+abbrev pub totalAwake : Situation → ℕ
+totalAwake situation = totalOf situation false
+
 -- the total of task t by the processors alone: of a job that neither spins nor is suspended
 abbrev pub placeBy : Processors → ℕ → ℕ
 placeBy p t =
-    if ltb (runOf p t) mostProcessors then totalOf Running
-    else if ltb (linkOf p t) mostProcessors then totalOf LinkedOnly
-    else totalOf Ready
+    if ltb (runOf p t) mostProcessors then totalAwake Running
+    else if ltb (linkOf p t) mostProcessors then totalAwake LinkedOnly
+    else totalAwake Ready
 
--- the total of a pending task, by its standing's number and its place by the processors
-abbrev pub totalBy : ℕ → ℕ → ℕ
-totalBy standing place =
-    if standing is suspended then totalOf Suspended
-    else if (standing is spinning && place is totalOf Running) then totalOf Spinning
+-- the total of a pending task, by its standing's number, its place by the processors and whether it is foremost
+abbrev pub totalBy : ℕ → ℕ → Bool → ℕ
+totalBy standing place foremost =
+    if standing is suspended then totalOf Suspended foremost
+    else if (standing is spinning && place is totalAwake Running) then totalAwake Spinning
     else place
 
--- the table with n added at place k, if the standing's number is that of a pending task
+-- the total of task t, by the numbers of the standings, who is ahead of each, and the processors
+abbrev pub totalWith : List ℕ → List ℕ → Processors → ℕ → ℕ
+totalWith stands ahead p t =
+    totalOf (situationOf (getD stands t absent) p t) (ltb (getD ahead t 0) (p .count))
+
+-- ---- an event's ticks charged
+-- the table with n added at place k
+abbrev pub addedAt : ℕ → ℕ → List ℕ → List ℕ
+addedAt k n totals = set totals k (getD totals k 0 + n)
+
+-- the same, if the standing's number is that of a pending task
 abbrev pub addedFor : ℕ → ℕ → ℕ → List ℕ → List ℕ
-addedFor standing k n totals = if standing isn't absent then set totals k (getD totals k 0 + n) else totals
+addedFor standing k n totals = if standing isn't absent then addedAt k n totals else totals
 
--- the table with n ticks charged to task t, by its standing's number and its place by the processors
-abbrev pub chargedBy : ℕ → ℕ → ℕ → ℕ → List ℕ → List ℕ
-chargedBy standing place n t totals = addedFor standing (totalCount * t + totalBy standing place) n totals
-
--- the place in the table that task t is charged at, by the numbers of the standings
-abbrev pub countsAt : Processors → List ℕ → ℕ → ℕ
-countsAt p stands t = totalCount * t + totalOf (situationOf (getD stands t absent) p t)
-
-module _ (p : Processors) (n : ℕ) (stands : List ℕ) where
-  -- the table with n ticks charged to task t, if it is pending
+-- n ticks; the numbers of the standings; and the total that each pending task is charged to
+module _ (n : ℕ) (stands : List ℕ) (total : ℕ → ℕ) where
+  -- the table with the ticks charged to task t, if it is pending
   abbrev pub chargedAt : ℕ → List ℕ → List ℕ
-  chargedAt t totals = addedFor (getD stands t absent) (countsAt p stands t) n totals
+  chargedAt t totals = addedFor (getD stands t absent) (totalCount * t + total t) n totals
 
-  -- the table with n ticks charged to each pending task below i
+  -- the table with the ticks charged to each pending task below i
   unfoldable pub chargedTo : List ℕ → ℕ → List ℕ
   chargedTo totals zero = totals
   chargedTo totals (suc i) = chargedAt i (chargedTo totals i)

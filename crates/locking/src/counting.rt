@@ -3,12 +3,13 @@ use input::Setup;
 use processors::Processors;
 use protocol::Task;
 ghost use mathlib.Core.Path.{_≡_};
-ghost use Prim.Native.Nat.{_≤_, _<_};
+ghost use Prim.Native.Nat.{_+_, _*_, _≤_, _<_};
+ghost use lib.Dec.{ltb};
 ghost use lib.ListN.{length};
 ghost use Rattle.search.specs.Table.{table};
 ghost use Rattle.numbers.specs.Limits.{mostTasks};
 ghost use Rattle.protocol.specs.Records.{totalCount, withTotals};
-ghost use Rattle.locking.specs.Totals.{allTotals, rowOf, counted, totalsIn, markedBy, placeBy, totalBy, chargedBy, chargedTo, CanCharge, CanChargeTask};
+ghost use Rattle.locking.specs.Totals.{allTotals, rowOf, counted, totalsIn, markedBy, placeBy, totalBy, totalWith, addedAt, chargedTo, CanCharge, CanChargeTask};
 
 // How many totals all tasks have.
 pub const ALL_TOTALS: usize = Setup::TASKS * Task::TOTALS;
@@ -22,7 +23,9 @@ const LINKED_ONLY: u8 = 2;
 
 const READY: u8 = 3;
 
-const SUSPENDED: u8 = 4;
+const DIRECT_BLOCKING: u8 = 4;
+
+const SUSPENDED_OTHERWISE: u8 = 5;
 
 // The table of the totals in the records.
 pub fn totals_of(tasks: [Task; Setup::TASKS]) -> [u32; ALL_TOTALS]
@@ -41,14 +44,11 @@ fn row_of(totals: &[u32], t: usize) -> [u32; Task::TOTALS]
     requires { ⌜ (t < mostTasks) × (length (now totals) ≡ allTotals) ⌝ }
     ensures { λ r. ⌜ r ≡ rowOf (now (totals .entry)) t ⌝ }
 {
-    let k = Task::TOTALS * t;
-    [
-        totals[k],
-        totals[k + 1],
-        totals[k + 2],
-        totals[k + 3],
-        totals[k + 4],
-    ]
+    let mut row = [0u32; Task::TOTALS];
+    for i in 0..Task::TOTALS {
+        row[i] = totals[Task::TOTALS * t + i];
+    }
+    row
 }
 
 // The task with other totals.
@@ -98,12 +98,17 @@ fn places_of(p: Processors) -> [u8; Setup::TASKS]
     places
 }
 
-// The total of a pending task with the standing number `stand` and the total `place` by the processors.
-fn total_by(stand: u8, place: u8) -> u8
-    ensures { λ r. ⌜ r ≡ totalBy stand place ⌝ }
+// The total of a pending task with the standing number `stand`, the total `place` by the processors alone, and
+// `ahead` tasks that outrank it.
+fn total_by(stand: u8, place: u8, ahead: u8, processors: usize) -> u8
+    ensures { λ r. ⌜ r ≡ totalBy stand place (ltb ahead processors) ⌝ }
 {
     if stand == Task::SUSPENDED {
-        SUSPENDED
+        if (ahead as usize) < processors {
+            DIRECT_BLOCKING
+        } else {
+            SUSPENDED_OTHERWISE
+        }
     } else if (stand == Task::SPINNING) & (place == RUNNING) {
         SPINNING
     } else {
@@ -111,30 +116,35 @@ fn total_by(stand: u8, place: u8) -> u8
     }
 }
 
-// Charges `ticks` to task `t`, if it is pending.
-fn charge_task(totals: &mut [u32], t: usize, stand: u8, place: u8, ticks: u16)
-    requires { ⌜ (place < totalCount) × CanChargeTask (now totals) ticks t ⌝ }
-    ensures { λ _. ⌜ now (totals .exit) ≡ chargedBy stand place ticks t (now (totals .entry)) ⌝ }
+// Charges `ticks` to a total of task `t`.
+fn charge_task(totals: &mut [u32], t: usize, total: u8, ticks: u16)
+    requires { ⌜ (total < totalCount) × CanChargeTask (now totals) ticks t ⌝ }
+    ensures { λ _. ⌜ now (totals .exit) ≡ addedAt (totalCount * t + total) ticks (now (totals .entry)) ⌝ }
 {
-    if stand != Task::ABSENT {
-        let k = Task::TOTALS * t + (total_by(stand, place) as usize);
-        totals[k] = totals[k] + (ticks as u32);
-    }
+    let k = Task::TOTALS * t + (total as usize);
+    totals[k] = totals[k] + (ticks as u32);
 }
 
-// Charges `ticks` to each pending task among the first `tasks`. Their standings have the numbers `stands`.
+// Charges `ticks` to each pending task among the first `count`. Their standings have the numbers `stands`, and
+// `ahead` says how many outrank each.
 pub fn charge(
     totals: &mut [u32],
     stands: [u8; Setup::TASKS],
+    ahead: [u8; Setup::TASKS],
     p: Processors,
-    tasks: usize,
+    count: usize,
     ticks: u16,
 )
-    requires { ⌜ (tasks ≤ mostTasks) × CanCharge (now totals) ticks ⌝ }
-    ensures { λ _. ⌜ now (totals .exit) ≡ chargedTo p ticks stands (now (totals .entry)) tasks ⌝ }
+    requires { ⌜ (count ≤ mostTasks) × CanCharge (now totals) ticks ⌝ }
+    ensures { λ _. ⌜ now (totals .exit)
+        ≡ chargedTo ticks stands (totalWith stands ahead p) (now (totals .entry)) count ⌝ }
 {
     let places = places_of(p);
-    for t in 0..tasks {
-        charge_task(totals, t, stands[t], places[t], ticks);
+    for t in 0..count {
+        let stand = stands[t];
+        if stand != Task::ABSENT {
+            let total = total_by(stand, places[t], ahead[t], p.count);
+            charge_task(totals, t, total, ticks);
+        }
     }
 }

@@ -7,6 +7,7 @@ mod events;
 mod judging;
 mod moving;
 mod playing;
+mod ranking;
 
 pub use events::judge_event;
 pub use events::step;

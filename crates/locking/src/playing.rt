@@ -1,5 +1,6 @@
 // The events of a whole part, with one sound test.
 use crate::Played;
+use crate::acting::Edit;
 use crate::acting::edited;
 use crate::acting::hand_over;
 use crate::clock::step_to;
@@ -10,6 +11,8 @@ use crate::judging::judge_parts;
 use crate::moving::keep;
 use crate::moving::kept_of;
 use crate::moving::moved;
+use crate::ranking::all_ahead;
+use crate::ranking::rank_again;
 use input::Setup;
 use numbers::Limit;
 use protocol::Reply;
@@ -44,8 +47,8 @@ fn place_in(naming: [u8; Setup::RESOURCES], r: u8) -> usize
 }
 
 // Plays the first `count` events of `part`, from a state that was tested. The state is taken apart once and put
-// together at the end, so that no event copies all of it; meanwhile the totals are in one table, and what moves look
-// up is kept up to date.
+// together at the end, so that no event copies all of it; meanwhile the totals are in one table, and what moves and
+// charges look up is kept up to date.
 fn play_events(state: State, tested: Tested, part: &[u8], count: usize, out: &mut [u8]) -> State
     requires { ⌜ (tested ≡ record { passes = sound state; naming = names (state .setup) })
         × (count ≡ playable (now part) (now out)) ⌝ }
@@ -61,6 +64,7 @@ fn play_events(state: State, tested: Tested, part: &[u8], count: usize, out: &mu
     let mut p = state.processors;
     let mut totals = totals_of(tasks);
     let mut kept = kept_of(kinds, tasks);
+    let mut ahead = all_ahead(&kept.stands, &kept.own, setup.tasks);
     let mut at = 0;
     for i in 0..count {
         let e = input::event_at(part, i);
@@ -74,7 +78,7 @@ fn play_events(state: State, tested: Tested, part: &[u8], count: usize, out: &mu
         if answer == 0 {
             let ticks = step_to(clock, e.tick);
             let stands = kept.stands;
-            charge(&mut totals, stands, p, setup.tasks, ticks);
+            charge(&mut totals, stands, ahead, p, setup.tasks, ticks);
             clock = clock + (ticks as u32);
             let g = place_in(naming, e.resource);
             let held = groups[g];
@@ -86,6 +90,17 @@ fn play_events(state: State, tested: Tested, part: &[u8], count: usize, out: &mu
             groups[g] = group;
             let followed = keep(kept, kinds, mine, e.task);
             kept = followed;
+            // Nobody else changes who outranks whom: a job that is handed a group below was pending, and stays so.
+            if (edit.turn == Edit::ARRIVE) | (edit.turn == Edit::LEAVE) {
+                rank_again(
+                    &mut ahead,
+                    &kept.stands,
+                    &kept.own,
+                    setup.tasks,
+                    task,
+                    e.task,
+                );
+            }
             p = moved(edit.turn, p, kept, setup, groups, e.task);
             if edit.next != Limit::NOBODY {
                 let u = edit.next as usize;

@@ -4,4 +4,5 @@ pub mod Queues
 pub mod Places
 pub mod StillWaiting
 pub mod ShortQueues
+pub mod Foremost
 pub mod Totals

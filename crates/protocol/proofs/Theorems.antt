@@ -11,11 +11,12 @@ use Rattle.setups.specs.Clearing.{cleared, emptyFrom, isClear}
 use Rattle.input.specs.declared.Setup.{Setup}
 use Rattle.protocol.specs.Records.{noTask, noGroup}
 use Rattle.protocol.specs.Events.{Move, fresh, begin, after}
-use Rattle.protocol.specs.Demands.{Given, LinksHighest, ShortQueue, AlwaysSound, AlwaysDemand3, AlwaysCharges, AlwaysSums, RefusedLeftOut, RefusedKeeps, RefusedIsEmpty}
+use Rattle.protocol.specs.Demands.{Given, LinksHighest, ShortQueue, AlwaysSound, AlwaysDemand3, AlwaysCharges, AlwaysSums, ForemostAreHighest, RefusedLeftOut, RefusedKeeps, RefusedIsEmpty}
 use Rattle.protocol.proofs.Sound.Statements.{Sound}
 use Rattle.protocol.proofs.Sound.Begin.{begin-sound}
 use Rattle.protocol.proofs.Sound.Reflect.{test-of-sound}
 use Rattle.protocol.proofs.Events.Step.{run-sound-by, run-setup-by, refused-out, refused-keeps-by}
+use Rattle.protocol.proofs.Demands.Foremost.{foremost-highest}
 use Rattle.protocol.proofs.Demands.Totals.{charges, totals-after}
 use Rattle.protocol.proofs.Demands.SoundStates.{priorities-apart, links-highest, one-holder, chains-end, one-place}
 use Rattle.protocol.proofs.Demands.ShortQueues.{short-queue}
@@ -60,6 +61,9 @@ charges-after c g ms pick e t ok h = charges (after c ms) pick e t (Q c g ms) ok
 
 pub totals-sum-after : AlwaysSums
 totals-sum-after c g ms t = totals-after c g ms t
+
+pub foremost-are-highest : ForemostAreHighest
+foremost-are-highest = foremost-highest
 
 -- ---- refused events and set-ups
 pub refused-out-after : RefusedLeftOut

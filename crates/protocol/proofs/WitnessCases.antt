@@ -23,7 +23,7 @@ use Rattle.input.specs.declared.Setup.{Setup}
 use Rattle.input.specs.declared.Event.{Event}
 use Rattle.protocol.specs.Words.{active, spinning, suspended, stand, asked, deadline, depth, request, holder, len, waiter}
 use Rattle.protocol.specs.Ranks.{own, leastOf, longHeld, effective, shortOpen, jobs}
-use Rattle.protocol.specs.Situations.{situation}
+use Rattle.protocol.specs.Situations.{situation, isForemost, totalFor}
 use Rattle.protocol.specs.Sound.{clockSound, timesSound, requestsSound, waitingSound, groupSound, emptySound, sound}
 use Rattle.protocol.specs.Refusals.{misplaced, eventRows, judge}
 use Rattle.protocol.specs.Locks.{openOfKind, opens, enqueues, closes, frees, dequeues, passes}
@@ -88,7 +88,7 @@ pub record Computed : Type 0 where
   pub warmed-there : link (warmed .processors) 1 ≡ 0
 
 pub computed : Computed
-unfolding allBelow anyBelow first best better table waiting queued empty appended movedUp withoutFirst placeOf tidyAt isTidy rankOf modeOf linkOf runOf noneLinked lowestFree lowestLinked displacing arrivingOn taken linking becomingPreemptable nextTask filling refilling leavingFrom leaving givingWay isPlaced setupRows setupRefusal joinedBy namesAfter names groupOf below cleared emptyFrom isClear fieldsOf stand asked deadline depth request holder len waiter own leastOf longHeld effective shortOpen jobs situation clockSound timesSound requestsSound waitingSound groupSound emptySound sound misplaced eventRows judge openOfKind opens enqueues closes frees dequeues passes arrives leaves becomesPreemptable givesWay arriveEvent finishEvent requestEvent completeEvent charged act stepBy step runBy run fresh begin howMany handsOver completions
+unfolding allBelow anyBelow first best better table waiting queued empty appended movedUp withoutFirst placeOf tidyAt isTidy rankOf modeOf linkOf runOf noneLinked lowestFree lowestLinked displacing arrivingOn taken linking becomingPreemptable nextTask filling refilling leavingFrom leaving givingWay isPlaced setupRows setupRefusal joinedBy namesAfter names groupOf below cleared emptyFrom isClear fieldsOf stand asked deadline depth request holder len waiter own leastOf longHeld effective shortOpen jobs situation isForemost totalFor clockSound timesSound requestsSound waitingSound groupSound emptySound sound misplaced eventRows judge openOfKind opens enqueues closes frees dequeues passes arrives leaves becomesPreemptable givesWay arriveEvent finishEvent requestEvent completeEvent charged act stepBy step runBy run fresh begin howMany handsOver completions
 computed = record {
   queueing-accepted = refl;
   asks-accepted = refl;

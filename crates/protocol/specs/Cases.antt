@@ -1,12 +1,12 @@
--- RULES.md, 'The worked cases': the twelve cases P1 to P12, in one table under one statement, computed with the
--- rules. A step is refused with 9 where the state is not sound, so the sound test runs at every step.
+-- RULES.md, 'The worked cases': P1 to P12, and two cases of two processors, in one table under one statement,
+-- computed with the rules. A step is refused with 9 where the state is not sound, so the sound test runs at every step.
 use Prim.Native.Nat.{ℕ, _-_}
 use mathlib.Core.Bool.{Bool, true, false, _&&_}
 use mathlib.Core.List.{List, [], _∷_, _++_, map}
 use mathlib.Core.Path.{_≡_, refl}
 use lib.ListN.{length, take, replicate}
 use Rattle.search.specs.Words.{_is_}
-use Rattle.search.specs.Below.{allBelow, anyBelow}
+use Rattle.search.specs.Below.{allBelow, anyBelow, howMany}
 use Rattle.search.specs.First.{first}
 use Rattle.search.specs.Best.{best, better}
 use Rattle.search.specs.Table.{table}
@@ -25,7 +25,7 @@ use Rattle.input.specs.declared.Event.{Event}
 use Rattle.protocol.specs.Records.{totalCount}
 use Rattle.protocol.specs.Words.{task, stand, asked, deadline, depth, request, holder, len, waiter}
 use Rattle.protocol.specs.Ranks.{own, leastOf, longHeld, effective, shortOpen, jobs}
-use Rattle.protocol.specs.Situations.{situation}
+use Rattle.protocol.specs.Situations.{situation, isForemost, totalFor}
 use Rattle.protocol.specs.Sound.{clockSound, timesSound, requestsSound, waitingSound, groupSound, emptySound, sound}
 use Rattle.protocol.specs.Refusals.{misplaced, eventRows, judge}
 use Rattle.protocol.specs.Locks.{openOfKind, opens, enqueues, closes, frees, dequeues, passes}
@@ -40,7 +40,7 @@ record Line : Type 0 where
   linked : List ℕ
   running : List ℕ
 
--- a set-up, the names of its resources' groups, the events, and each task's five totals at the end
+-- a set-up, the names of its resources' groups, the events, and each task's six totals at the end
 record Case : Type 0 where
   setup : Setup
   groups : List ℕ
@@ -129,7 +129,7 @@ fourSteps =
     ∷ line 1 2 0 2 0 (two 0 2) (two 0 1)
     ∷ []
 
--- the twelve cases
+-- the cases
 abbrev cases : List Case
 cases =
     -- P1 to P8: the printed case
@@ -143,7 +143,7 @@ cases =
           ∷ line 2 1 0 9 19 (two 0 2) (two 0 2)
           ∷ line 2 2 0 12 0 (two 0 1) (two 0 1)
           ∷ [];
-      totals = (13 ∷ 5 ∷ 0 ∷ 0 ∷ 0 ∷ []) ∷ (13 ∷ 0 ∷ 0 ∷ 3 ∷ 0 ∷ []) ∷ (3 ∷ 0 ∷ 7 ∷ 0 ∷ 0 ∷ []) ∷ [];
+      totals = (13 ∷ 5 ∷ 0 ∷ 0 ∷ 0 ∷ 0 ∷ []) ∷ (13 ∷ 0 ∷ 0 ∷ 3 ∷ 0 ∷ 0 ∷ []) ∷ (3 ∷ 0 ∷ 7 ∷ 0 ∷ 0 ∷ 0 ∷ []) ∷ [];
     }
     -- P9: after step 4, task 0 finishes at tick 4
     ∷ record {
@@ -153,7 +153,7 @@ cases =
           fourSteps
           ++ line 2 0 0 4 0 (two 2 1) (two 2 1)
           ∷ [];
-      totals = (10 ∷ 0 ∷ 0 ∷ 0 ∷ 0 ∷ []) ∷ (8 ∷ 0 ∷ 0 ∷ 0 ∷ 0 ∷ []) ∷ (0 ∷ 0 ∷ 2 ∷ 0 ∷ 0 ∷ []) ∷ [];
+      totals = (10 ∷ 0 ∷ 0 ∷ 0 ∷ 0 ∷ 0 ∷ []) ∷ (8 ∷ 0 ∷ 0 ∷ 0 ∷ 0 ∷ 0 ∷ []) ∷ (0 ∷ 0 ∷ 2 ∷ 0 ∷ 0 ∷ 0 ∷ []) ∷ [];
     }
     -- P10: one processor and a long resource; the holder inherits
     ∷ record {
@@ -167,7 +167,7 @@ cases =
           ∷ line 1 2 0 20 0 (one 0) (one 0)
           ∷ line 4 0 0 20 0 (one 1) (one 1)
           ∷ [];
-      totals = (20 ∷ 0 ∷ 0 ∷ 0 ∷ 0 ∷ []) ∷ (0 ∷ 0 ∷ 0 ∷ 0 ∷ 10 ∷ []) ∷ (0 ∷ 0 ∷ 0 ∷ 0 ∷ 0 ∷ []) ∷ [];
+      totals = (20 ∷ 0 ∷ 0 ∷ 0 ∷ 0 ∷ 0 ∷ []) ∷ (0 ∷ 0 ∷ 0 ∷ 0 ∷ 10 ∷ 0 ∷ []) ∷ (0 ∷ 0 ∷ 0 ∷ 0 ∷ 0 ∷ 0 ∷ []) ∷ [];
     }
     -- P11: step 32,767 is accepted, 32,768 is not
     ∷ record {
@@ -187,11 +187,60 @@ cases =
       lines = [];
       totals = replicate totalCount 0 ∷ [];
     }
+    -- Direct blocking. Task 1 is suspended from 10 on. Tasks 2 and 3 outrank it from 20 and from 40 on, of which 2 is
+    -- suspended; 3 finishes at 50. From 40 to 50 it is therefore not one of the two highest. What 0 inherits does not
+    -- count.
+    ∷ record {
+      setup = given 2 0 (1000 ∷ 300 ∷ 200 ∷ 100 ∷ []) (one 1) [] [];
+      groups = one 0;
+      lines =
+          line 1 0 0 0 0 (two 0 nobody) (two 0 nobody)
+          ∷ line 3 0 0 0 0 (two 0 nobody) (two 0 nobody)
+          ∷ line 1 1 0 0 0 (two 0 1) (two 0 1)
+          ∷ line 3 1 0 10 0 (two 0 nobody) (two 0 nobody)
+          ∷ line 1 2 0 20 0 (two 0 2) (two 0 2)
+          ∷ line 3 2 0 30 0 (two 0 nobody) (two 0 nobody)
+          ∷ line 1 3 0 40 0 (two 0 3) (two 0 3)
+          ∷ line 2 3 0 50 0 (two 0 nobody) (two 0 nobody)
+          ∷ line 4 0 0 60 0 (two 0 1) (two 0 1)
+          ∷ [];
+      totals =
+          (60 ∷ 0 ∷ 0 ∷ 0 ∷ 0 ∷ 0 ∷ [])
+          ∷ (10 ∷ 0 ∷ 0 ∷ 0 ∷ 40 ∷ 10 ∷ [])
+          ∷ (10 ∷ 0 ∷ 0 ∷ 0 ∷ 30 ∷ 0 ∷ [])
+          ∷ (10 ∷ 0 ∷ 0 ∷ 0 ∷ 0 ∷ 0 ∷ [])
+          ∷ [];
+    }
+    -- Giving way. Task 0 completes while 2 runs, non-preemptable, where 3 is linked: 0 gives way to 2, and 3 moves.
+    -- Then task 1 resumes, higher than 2 by what it inherits from 4 alone.
+    ∷ record {
+      setup = given 2 0 (1000 ∷ 800 ∷ 500 ∷ 300 ∷ 100 ∷ []) (two 1 0) [] [];
+      groups = two 0 1;
+      lines =
+          line 1 0 0 0 0 (two 0 nobody) (two 0 nobody)
+          ∷ line 3 0 0 0 0 (two 0 nobody) (two 0 nobody)
+          ∷ line 1 1 0 1 0 (two 0 1) (two 0 1)
+          ∷ line 3 1 0 2 0 (two 0 nobody) (two 0 nobody)
+          ∷ line 1 2 0 3 0 (two 0 2) (two 0 2)
+          ∷ line 3 2 1 4 0 (two 0 2) (two 0 2)
+          ∷ line 1 4 0 5 0 (two 4 2) (two 4 2)
+          ∷ line 3 4 0 6 0 (two 0 2) (two 0 2)
+          ∷ line 1 3 0 7 0 (two 0 3) (two 0 2)
+          ∷ line 4 0 0 8 0 (two 3 1) (two 3 2)
+          ∷ [];
+      totals =
+          (7 ∷ 0 ∷ 0 ∷ 1 ∷ 0 ∷ 0 ∷ [])
+          ∷ (1 ∷ 0 ∷ 0 ∷ 0 ∷ 3 ∷ 3 ∷ [])
+          ∷ (5 ∷ 0 ∷ 0 ∷ 0 ∷ 0 ∷ 0 ∷ [])
+          ∷ (0 ∷ 0 ∷ 1 ∷ 0 ∷ 0 ∷ 0 ∷ [])
+          ∷ (1 ∷ 0 ∷ 0 ∷ 0 ∷ 2 ∷ 0 ∷ [])
+          ∷ [];
+    }
     ∷ []
 
 -- every case holds
 pub cases-hold : all holds cases ≡ true
-unfolding allBelow anyBelow first best better table waiting queued empty appended movedUp withoutFirst placeOf tidyAt isTidy rankOf modeOf linkOf runOf noneLinked lowestFree lowestLinked displacing arrivingOn taken linking becomingPreemptable nextTask filling refilling leavingFrom leaving givingWay isPlaced setupRows setupRefusal joinedBy namesAfter names groupOf below cleared emptyFrom isClear fieldsOf stand asked deadline depth request holder len waiter own leastOf longHeld effective shortOpen jobs situation clockSound timesSound requestsSound waitingSound groupSound emptySound sound misplaced eventRows judge openOfKind opens enqueues closes frees dequeues passes arrives leaves becomesPreemptable givesWay arriveEvent finishEvent requestEvent completeEvent charged act stepBy step fresh begin
+unfolding allBelow anyBelow howMany first best better table waiting queued empty appended movedUp withoutFirst placeOf tidyAt isTidy rankOf modeOf linkOf runOf noneLinked lowestFree lowestLinked displacing arrivingOn taken linking becomingPreemptable nextTask filling refilling leavingFrom leaving givingWay isPlaced setupRows setupRefusal joinedBy namesAfter names groupOf below cleared emptyFrom isClear fieldsOf stand asked deadline depth request holder len waiter own leastOf longHeld effective shortOpen jobs situation isForemost totalFor clockSound timesSound requestsSound waitingSound groupSound emptySound sound misplaced eventRows judge openOfKind opens enqueues closes frees dequeues passes arrives leaves becomesPreemptable givesWay arriveEvent finishEvent requestEvent completeEvent charged act stepBy step fresh begin
 cases-hold = refl
 
 -- the state that the printed case begins with
@@ -217,5 +266,5 @@ reply₂ = step (reply₁ .state) event₂
 -- where the replies and the states differ: in the first answer, and in the task that a processor runs
 pub differences : (reply₁ .answer ≡ 0) × (runs (opening .processors) 0 ≡ 255) × (runs (reply₁ .state .processors) 0 ≡ 0)
     × (runs (reply₁ .state .processors) 1 ≡ 255) × (runs (reply₂ .state .processors) 1 ≡ 1)
-unfolding allBelow anyBelow first best better table waiting queued empty appended movedUp withoutFirst placeOf tidyAt isTidy rankOf modeOf linkOf runOf noneLinked lowestFree lowestLinked displacing arrivingOn taken linking becomingPreemptable nextTask filling refilling leavingFrom leaving givingWay isPlaced setupRows setupRefusal joinedBy namesAfter names groupOf below cleared emptyFrom isClear fieldsOf stand asked deadline depth request holder len waiter own leastOf longHeld effective shortOpen jobs situation clockSound timesSound requestsSound waitingSound groupSound emptySound sound misplaced eventRows judge openOfKind opens enqueues closes frees dequeues passes arrives leaves becomesPreemptable givesWay arriveEvent finishEvent requestEvent completeEvent charged act stepBy step fresh begin
+unfolding allBelow anyBelow howMany first best better table waiting queued empty appended movedUp withoutFirst placeOf tidyAt isTidy rankOf modeOf linkOf runOf noneLinked lowestFree lowestLinked displacing arrivingOn taken linking becomingPreemptable nextTask filling refilling leavingFrom leaving givingWay isPlaced setupRows setupRefusal joinedBy namesAfter names groupOf below cleared emptyFrom isClear fieldsOf stand asked deadline depth request holder len waiter own leastOf longHeld effective shortOpen jobs situation isForemost totalFor clockSound timesSound requestsSound waitingSound groupSound emptySound sound misplaced eventRows judge openOfKind opens enqueues closes frees dequeues passes arrives leaves becomesPreemptable givesWay arriveEvent finishEvent requestEvent completeEvent charged act stepBy step fresh begin
 differences = (refl, refl, refl, refl, refl)

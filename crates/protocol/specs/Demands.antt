@@ -25,7 +25,7 @@ use Rattle.protocol.specs.Words.{lastClock, absent, active, spinning, su
 use Rattle.protocol.specs.Records.{noTask, noGroup}
 use Rattle.protocol.specs.Sound.{sound}
 use Rattle.protocol.specs.Ranks.{shortOpen, effective, jobs}
-use Rattle.protocol.specs.Situations.{situation, totalOf}
+use Rattle.protocol.specs.Situations.{outranks, isForemost, totalFor}
 use Rattle.protocol.specs.Refusals.{stepOf, judge}
 use Rattle.protocol.specs.Locks.{openOfKind, closes}
 use Rattle.protocol.specs.Events.{Prefers, Move, moved, stepBy, runBy, begin, after}
@@ -157,17 +157,24 @@ pendingTicks s (m ∷ ms) t pending since =
     else if accepts s e finish && e .task is t then (next .clock - since) + pendingTicks next ms t false 0
     else pendingTicks next ms t pending since
 
--- the five totals of a task sum to the ticks that it has been pending; no task is pending at the start
+-- the six totals of a task sum to the ticks that it has been pending; no task is pending at the start
 abbrev pub TotalsSum : Setup → List Move → Type 0
 TotalsSum c ms = (t : ℕ) → sum (task (after c ms) t .totals) ≡ pendingTicks (begin c .state) ms t false 0
 
--- the ticks of an accepted step go, for a pending task, to the total of its situation before the event; else nowhere
+-- the ticks of an accepted step go, for a pending task, to one total, by the state before the event; else nowhere
 abbrev pub Charges : State → Prefers → Event → ℕ → Type 0
 Charges s pick e t =
     let before = task s t .totals in
-    let i = totalOf (situation s t) in
+    let i = totalFor s t in
     task (stepBy pick s e .state) t .totals
     ≡ (if stand s t isn't absent then set before i (getD before i 0 + stepOf s e) else before)
+
+-- the foremost jobs are exactly the m highest-priority pending ones, or all if fewer, by own priority: who outranks a
+-- foremost job is foremost, and so many are
+pub record ForemostHighest (s : State) : Type 0 where
+  pub higher : (t u : ℕ) → u < mostTasks → outranks s t u ≡ true → isForemost s t ≡ true → isForemost s u ≡ true
+  pub many : howMany (λ t. stand s t isn't absent && isForemost s t) mostTasks
+      ≡ min (s .setup .processors) (howMany (λ t. stand s t isn't absent) mostTasks)
 
 -- ---- the theorems
 -- P holds of every run from an accepted set-up
@@ -190,6 +197,10 @@ AlwaysCharges = Always (λ c ms. (pick : Prefers) (e : Event) (t : ℕ) → judg
 -- the totals sum to the ticks pending
 abbrev pub AlwaysSums : Type 0
 AlwaysSums = Always TotalsSum
+
+-- the foremost jobs are the highest, in any state
+abbrev pub ForemostAreHighest : Type 0
+ForemostAreHighest = (s : State) → ForemostHighest s
 
 -- a refused event can be left out of a run
 abbrev pub RefusedLeftOut : Type 0

@@ -19,7 +19,7 @@ use Rattle.input.specs.declared.Event.{Event}
 use Rattle.protocol.specs.Records.{noTask, noGroup, withTotals, withClock, withTasks, withProcessors}
 use Rattle.protocol.specs.Words.{absent, task, stand, holder, len}
 use Rattle.protocol.specs.Ranks.{jobs}
-use Rattle.protocol.specs.Situations.{situation, totalOf}
+use Rattle.protocol.specs.Situations.{totalFor}
 use Rattle.protocol.specs.Refusals.{stepOf, judge}
 use Rattle.protocol.specs.Locks.{openOfKind, opens, enqueues, closes, frees, nextAt, passes, arriveEdit, finishEdit}
 use Rattle.protocol.specs.declared.Task.{Task}
@@ -60,11 +60,11 @@ module _ (c : Setup) (t : ℕ) where
 abbrev pub counting : ℕ → ℕ → Task → Task
 counting i n t = withTotals (set (t .totals) i (getD (t .totals) i 0 + n)) t
 
--- the clock moves forward by n ticks, and each pending task has them charged to the total of its situation
+-- the clock moves forward by n ticks, and each pending task has them charged to its total
 unfoldable pub charged : ℕ → State → State
 charged n s =
     withClock (s .clock + n) (withTasks (table
-    (λ t. if stand s t isn't absent then counting (totalOf (situation s t)) n (task s t) else task s t)
+    (λ t. if stand s t isn't absent then counting (totalFor s t) n (task s t) else task s t)
     mostTasks) s)
 
 -- ---- arrive or resume, and a whole step

@@ -16,7 +16,7 @@ use Rattle.protocol.specs.declared.State.{State}
 
 -- how many totals a task has: `Task::TOTALS`
 abbrev pub totalCount : ℕ
-totalCount = 5
+totalCount = 6
 
 -- ---- the empty records
 -- no task: no job, no request open, totals 0

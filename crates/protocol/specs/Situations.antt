@@ -1,13 +1,16 @@
 -- RULES.md, 'Tick totals': the situation of a task, the total that it is charged to, and the refusal that it gives.
 use Prim.Native.Nat.{ℕ}
+use mathlib.Core.Bool.{Bool, true, false, _&&_}
 use lib.Dec.{ltb}
-use Rattle.search.specs.Words.{if_then_else_, _is_}
+use Rattle.search.specs.Words.{if_then_else_, _is_, _isn't_}
+use Rattle.search.specs.Below.{howMany}
 use Rattle.numbers.specs.Refusals.{notPending, onNoProcessor, isSpinning}
-use Rattle.numbers.specs.Limits.{mostProcessors}
+use Rattle.numbers.specs.Limits.{mostProcessors, mostTasks}
 use Rattle.processors.specs.Words.{linkOf, runOf}
 use Rattle.processors.specs.declared.Processors.{Processors}
 use Rattle.protocol.specs.Records.{totalCount}
 use Rattle.protocol.specs.Words.{absent, spinning, suspended, stand}
+use Rattle.protocol.specs.Ranks.{own}
 use Rattle.protocol.specs.declared.Situation.{Situation}
 use Rattle.protocol.specs.declared.Situation.the-variants.{NoJob, Running, Spinning, LinkedOnly, Ready, Suspended}
 use Rattle.protocol.specs.declared.State.{State}
@@ -26,18 +29,28 @@ situationOf standing p t =
 unfoldable pub situation : State → ℕ → Situation
 situation s t = situationOf (stand s t) (s .processors) t
 
--- the total of suspended ticks, which are reported as direct blocking
-abbrev pub directBlocking : ℕ
-directBlocking = 4
+-- u is pending, suspended or not, and has a higher priority than t; each by its own, inherited priority not counted
+abbrev pub outranks : State → ℕ → ℕ → Bool
+outranks s t u = stand s u isn't absent && ltb (own s u) (own s t)
 
--- the total of each situation, in the order printed; a task without a job has none
-abbrev pub totalOf : Situation → ℕ
-totalOf Running = 0
-totalOf Spinning = 1
-totalOf LinkedOnly = 2
-totalOf Ready = 3
-totalOf Suspended = directBlocking
-totalOf NoJob = totalCount
+-- t's job is one of the m highest-priority pending ones: fewer than m outrank it
+unfoldable pub isForemost : State → ℕ → Bool
+isForemost s t = ltb (howMany (outranks s t) mostTasks) (s .setup .processors)
+
+-- the total of a job in a situation, foremost or not, in the order printed: a suspended job is directly blocked while
+-- it is foremost, and suspended otherwise; a task without a job has none
+abbrev pub totalOf : Situation → Bool → ℕ
+totalOf Running foremost = 0
+totalOf Spinning foremost = 1
+totalOf LinkedOnly foremost = 2
+totalOf Ready foremost = 3
+totalOf Suspended true = 4
+totalOf Suspended false = 5
+totalOf NoJob foremost = totalCount
+
+-- the total that a tick of t goes to in s
+unfoldable pub totalFor : State → ℕ → ℕ
+totalFor s t = totalOf (situation s t) (isForemost s t)
 
 -- the refusal of a finish, request or completion in a situation, 18 to 20, or 0
 abbrev pub situationRefusal : Situation → ℕ

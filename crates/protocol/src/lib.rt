@@ -42,8 +42,9 @@ pub struct Task {
 impl Task {
     // How many requests a job may have open.
     pub const REQUESTS: usize = Limit::REQUESTS;
-    // How many totals there are: running, spinning, linked but not running, ready, suspended.
-    pub const TOTALS: usize = 5;
+    // How many totals there are: running, spinning, linked but not running, ready, direct blocking, suspended
+    // otherwise.
+    pub const TOTALS: usize = 6;
     // The numbers of the standings: no job, active, spinning on a short group, suspended on a long one.
     pub const ABSENT: u8 = 0;
 

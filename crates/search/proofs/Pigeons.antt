@@ -1,10 +1,11 @@
 -- As many places as distinct numbers below a bound, and how many pass a test. Assumes nothing.
 use Prim.Native.Nat.{ℕ, zero, suc, _+_, _<_, _≤_}
-use mathlib.Core.Path.{_≡_, refl}
+use mathlib.Core.Path.{_≡_, refl, _∙_}
 use mathlib.Core.Bool.{Bool, true, false}
 use mathlib.Core.List.{List}
 use mathlib.Core.Logic.{_≢_, _⊎_, inl, inr, ⊎-elim}
 use native.Mathlib.Omega.{arith}
+use native.Mathlib.Numerals.{add-one}
 use native.Mathlib.Decide.{ℕ-discrete, decLt}
 use lib.ListN.{length, getD}
 use borrow.Author.Tests.{eq-eqb, ne-eqb}
@@ -74,6 +75,15 @@ pub distinct-few : (m : ℕ) (l : List ℕ) → ((i : ℕ) → i < length l → 
     → ((i k : ℕ) → i < length l → k < length l → getD l i 0 ≡ getD l k 0 → i ≡ k) → length l ≤ m
 distinct-few m l low apart = pigeons m (length l) (λ i. getD l i 0) low apart
 
+-- ---- a loop that counts, at its start and after one turn
+pub howMany-none : (ok : ℕ → Bool) → howMany ok 0 ≡ 0
+unfolding howMany
+howMany-none ok = refl
+
+pub howMany-turn : (ok : ℕ → Bool) (n : ℕ) → howMany ok (n + 1) ≡ howMany ok n + (if ok n then 1 else 0)
+unfolding howMany
+howMany-turn ok n = rw (add-one n)
+
 -- ---- how many pass grows with the bound
 howMany-up : (ok : ℕ → Bool) (i n : ℕ) → i ≤ n → howMany ok i ≤ howMany ok n
 unfolding howMany
@@ -86,11 +96,38 @@ unfolding howMany
 howMany-same ok ok′ zero same = refl
 howMany-same ok ok′ (suc n) same = rw (howMany-same ok ok′ n (λ i h. same i (omega arith)), same n (omega arith))
 
+-- none of those from i on passes: they do not count
+pub howMany-past : (ok : ℕ → Bool) (i n : ℕ) → i ≤ n → ((k : ℕ) → i ≤ k → k < n → ok k ≡ false) → howMany ok i ≡ howMany ok n
+unfolding howMany
+howMany-past ok i zero h none = rw (let z : i ≡ 0 = omega arith in z)
+howMany-past ok i (suc n) h none = elim (ℕ-discrete i (suc n)) [
+  | yes e ↦ rw e
+  | no d ↦ rw (none n (omega arith) (omega arith)) (howMany-past ok i n (omega arith) (λ k f g. none k f (omega arith)) ∙ (let z : howMany ok n ≡ howMany ok n + 0 = omega arith in z))
+]
+
+-- two tests that agree below n but at t: the counts differ by what they say of t
+pub howMany-change : (ok ok′ : ℕ → Bool) (t n : ℕ) → t < n → ((i : ℕ) → i < n → i ≢ t → ok i ≡ ok′ i)
+    → howMany ok n + (if ok′ t then 1 else 0) ≡ howMany ok′ n + (if ok t then 1 else 0)
+unfolding howMany
+howMany-change ok ok′ t zero h same = absurd (omega arith)
+howMany-change ok ok′ t (suc n) h same = elim (ℕ-discrete t n) [
+  | yes e ↦ rw e (omega (arith, howMany-same ok ok′ n (λ i l. same i (omega arith) (omega arith))))
+  | no d ↦ rw (same n (omega arith) (λ e. d (omega arith))) (omega (arith, howMany-change ok ok′ t n (omega arith) (λ i l. same i (omega arith))))
+]
+
+-- at most all of them pass
+pub howMany-most : (ok : ℕ → Bool) (n : ℕ) → howMany ok n ≤ n
+howMany-most ok n = count-into ok n n (λ i. i) (λ i h q. h) (λ i k h l q w e. e)
+
 howMany-at : (ok : ℕ → Bool) (i n : ℕ) → i < n → ok i ≡ true → howMany ok i < howMany ok n
 unfolding howMany
 howMany-at ok i n h e =
     let u = howMany-up ok (suc i) n h in
     omega (arith, rw e at u)
+
+-- one passes: some do
+pub howMany-some : (ok : ℕ → Bool) (i n : ℕ) → i < n → ok i ≡ true → 0 < howMany ok n
+howMany-some ok i n h e = omega (arith, howMany-at ok i n h e)
 
 -- those below n that pass one test go to distinct numbers below m that pass another: there are at most as many
 pub count-onto : (ok ok′ : ℕ → Bool) (n m : ℕ) (f : ℕ → ℕ) → ((i : ℕ) → i < n → ok i ≡ true → (f i < m) × (ok′ (f i) ≡ true))

@@ -5,7 +5,7 @@ use mathlib.Core.Path.{_≡_, refl}
 use mathlib.Core.List.{List, [], _∷_, _++_}
 use native.Mathlib.Omega.{arith}
 use lib.ListN.{length, getD, replicate}
-use Rattle.search.specs.Below.{allBelow, anyBelow}
+use Rattle.search.specs.Below.{allBelow, anyBelow, howMany}
 use Rattle.search.specs.First.{first}
 use Rattle.search.specs.Best.{best, better}
 use Rattle.search.specs.Table.{table}
@@ -20,7 +20,7 @@ use Rattle.setups.specs.Clearing.{below, cleared, emptyFrom, isClear}
 use Rattle.input.specs.Kinds.{fieldsOf}
 use Rattle.protocol.specs.Words.{task, stand, asked, deadline, depth, request, holder, len, waiter}
 use Rattle.protocol.specs.Ranks.{own, leastOf, longHeld, effective, shortOpen, jobs}
-use Rattle.protocol.specs.Situations.{situation}
+use Rattle.protocol.specs.Situations.{situation, isForemost, totalFor}
 use Rattle.protocol.specs.Sound.{clockSound, timesSound, requestsSound, waitingSound, groupSound, emptySound, sound}
 use Rattle.protocol.specs.Refusals.{misplaced, eventRows, judge}
 use Rattle.protocol.specs.Locks.{openOfKind, opens, enqueues, closes, frees, dequeues, passes}
@@ -69,10 +69,10 @@ pub printed-case : fileText (blocksOf printedBytes)
     ++ codes "6 0 0/0 2/2\n"
     ++ codes "7 19 0/0 2/2\n"
     ++ codes "8 0 0/0 1/1\n"
-    ++ codes "task 0 13 5 0 0 0\n"
-    ++ codes "task 1 13 0 0 3 0\n"
-    ++ codes "task 2 3 0 7 0 0\n"
-unfolding allBelow anyBelow first best better table waiting queued empty appended movedUp withoutFirst placeOf tidyAt isTidy rankOf modeOf linkOf runOf noneLinked lowestFree lowestLinked displacing arrivingOn taken linking becomingPreemptable nextTask filling refilling leavingFrom leaving givingWay isPlaced setupRows setupRefusal joinedBy namesAfter names groupOf below cleared emptyFrom isClear fieldsOf stand asked deadline depth request holder len waiter own leastOf longHeld effective shortOpen jobs situation clockSound timesSound requestsSound waitingSound groupSound emptySound sound misplaced eventRows judge openOfKind opens enqueues closes frees dequeues passes arrives leaves becomesPreemptable givesWay arriveEvent finishEvent requestEvent completeEvent charged act stepBy step fresh begin startIn periodsIn kindsIn sideIn setupIn eventIn eventCount runBy run sums isChecked isBlank isSetupFilled isEventFilled blockRows verdict digits eachText firstText taskText taskLineText blockText setupText blocksOf eventsFrom answerText endText fileText
+    ++ codes "task 0 13 5 0 0 0 0\n"
+    ++ codes "task 1 13 0 0 3 0 0\n"
+    ++ codes "task 2 3 0 7 0 0 0\n"
+unfolding allBelow anyBelow howMany first best better table waiting queued empty appended movedUp withoutFirst placeOf tidyAt isTidy rankOf modeOf linkOf runOf noneLinked lowestFree lowestLinked displacing arrivingOn taken linking becomingPreemptable nextTask filling refilling leavingFrom leaving givingWay isPlaced setupRows setupRefusal joinedBy namesAfter names groupOf below cleared emptyFrom isClear fieldsOf stand asked deadline depth request holder len waiter own leastOf longHeld effective shortOpen jobs situation isForemost totalFor clockSound timesSound requestsSound waitingSound groupSound emptySound sound misplaced eventRows judge openOfKind opens enqueues closes frees dequeues passes arrives leaves becomesPreemptable givesWay arriveEvent finishEvent requestEvent completeEvent charged act stepBy step fresh begin startIn periodsIn kindsIn sideIn setupIn eventIn eventCount runBy run sums isChecked isBlank isSetupFilled isEventFilled blockRows verdict digits eachText firstText taskText taskLineText blockText setupText blocksOf eventsFrom answerText endText fileText
 printed-case = refl
 
 -- its two blocks and its set-up are accepted, so the theorem about accepted files speaks of it
@@ -83,7 +83,7 @@ pub record Computed : Type 0 where
   pub second : refusalOf (getD (blocksOf printedBytes) 1 []) 1 ≡ 0
 
 pub computed : Computed
-unfolding allBelow anyBelow first best better table waiting queued empty appended movedUp withoutFirst placeOf tidyAt isTidy rankOf modeOf linkOf runOf noneLinked lowestFree lowestLinked displacing arrivingOn taken linking becomingPreemptable nextTask filling refilling leavingFrom leaving givingWay isPlaced setupRows setupRefusal joinedBy namesAfter names groupOf below cleared emptyFrom isClear fieldsOf stand asked deadline depth request holder len waiter own leastOf longHeld effective shortOpen jobs situation clockSound timesSound requestsSound waitingSound groupSound emptySound sound misplaced eventRows judge openOfKind opens enqueues closes frees dequeues passes arrives leaves becomesPreemptable givesWay arriveEvent finishEvent requestEvent completeEvent charged act stepBy step fresh begin startIn periodsIn kindsIn sideIn setupIn eventIn eventCount runBy run sums isChecked isBlank isSetupFilled isEventFilled blockRows verdict digits eachText firstText taskText taskLineText blockText setupText blocksOf eventsFrom answerText endText fileText
+unfolding allBelow anyBelow howMany first best better table waiting queued empty appended movedUp withoutFirst placeOf tidyAt isTidy rankOf modeOf linkOf runOf noneLinked lowestFree lowestLinked displacing arrivingOn taken linking becomingPreemptable nextTask filling refilling leavingFrom leaving givingWay isPlaced setupRows setupRefusal joinedBy namesAfter names groupOf below cleared emptyFrom isClear fieldsOf stand asked deadline depth request holder len waiter own leastOf longHeld effective shortOpen jobs situation isForemost totalFor clockSound timesSound requestsSound waitingSound groupSound emptySound sound misplaced eventRows judge openOfKind opens enqueues closes frees dequeues passes arrives leaves becomesPreemptable givesWay arriveEvent finishEvent requestEvent completeEvent charged act stepBy step fresh begin startIn periodsIn kindsIn sideIn setupIn eventIn eventCount runBy run sums isChecked isBlank isSetupFilled isEventFilled blockRows verdict digits eachText firstText taskText taskLineText blockText setupText blocksOf eventsFrom answerText endText fileText
 computed = record { two = refl; opens = refl; setup = refl; second = refl }
 
 follows : (i : ℕ) → i < length (blocksOf printedBytes) → refusalOf (getD (blocksOf printedBytes) i []) i ≡ 0

@@ -19,7 +19,7 @@ use Rattle.input.specs.declared.Setup.{Setup}
 use Rattle.input.specs.declared.Event.{Event}
 use Rattle.protocol.specs.Words.{sum, absent, standingNo, task, stand}
 use Rattle.protocol.specs.Records.{noTask}
-use Rattle.protocol.specs.Situations.{situation, totalOf}
+use Rattle.protocol.specs.Situations.{totalFor}
 use Rattle.protocol.specs.Refusals.{stepOf, judge}
 use Rattle.protocol.specs.Locks.{arriving, departing, onTask}
 use Rattle.protocol.specs.Edited.{edited}
@@ -100,16 +100,16 @@ module _ (s : State) (e : Event) (Q : Sound s) (ok : judge s e ≡ 0) (s′ : St
 
 charged-totals : (s : State) (n t : ℕ) → t < mostTasks
     → task (charged n s) t .totals
-    ≡ (if stand s t isn't absent then set (task s t .totals) (totalOf (situation s t)) (getD (task s t .totals) (totalOf (situation s t)) 0 + n) else task s t .totals)
+    ≡ (if stand s t isn't absent then set (task s t .totals) (totalFor s t) (getD (task s t .totals) (totalFor s t) 0 + n) else task s t .totals)
 unfolding charged
 charged-totals s n t h = ap (λ (x : Task). x .totals) (table-at _ mostTasks t noTask h) ∙ go (stand s t isn't absent)
   where
-    go : (b : Bool) → (if b then counting (totalOf (situation s t)) n (task s t) else task s t) .totals
-        ≡ (if b then set (task s t .totals) (totalOf (situation s t)) (getD (task s t .totals) (totalOf (situation s t)) 0 + n) else task s t .totals)
+    go : (b : Bool) → (if b then counting (totalFor s t) n (task s t) else task s t) .totals
+        ≡ (if b then set (task s t .totals) (totalFor s t) (getD (task s t .totals) (totalFor s t) 0 + n) else task s t .totals)
     go true = refl
     go false = refl
 
--- the ticks of an accepted step go to the one total of the situation before it
+-- the ticks of an accepted step go to one total, by the state before it
 pub charges : (s : State) (pick : Prefers) (e : Event) (t : ℕ) → Sound s → judge s e ≡ 0 → t < mostTasks → Charges s pick e t
 charges s pick e t Q ok h = comes s e Q ok _ (step-does pick s e ok) t .totals ∙ charged-totals s (stepOf s e) t h
 

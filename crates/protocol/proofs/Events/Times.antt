@@ -24,7 +24,7 @@ use Rattle.input.specs.declared.Setup.{Setup}
 use Rattle.protocol.specs.Records.{totalCount, noTask, withProcessors}
 use Rattle.protocol.specs.Words.{lastClock, sum, absent, spinning, suspended, standingNo, askedOf, task, stand, asked, deadline, depth, request}
 use Rattle.protocol.specs.Ranks.{own, jobs}
-use Rattle.protocol.specs.Situations.{situation, totalOf}
+use Rattle.protocol.specs.Situations.{situationOf, situation, isForemost, totalOf, totalFor}
 use Rattle.protocol.specs.Locks.{arriving, departing, onTask, withGroup}
 use Rattle.protocol.specs.Events.{counting, charged}
 use Rattle.protocol.specs.declared.Situation.{Situation}
@@ -115,21 +115,21 @@ sum-set [] i n h = absurd (not-suc-le-zero h)
 sum-set (x ∷ l) zero n h = omega arith
 sum-set (x ∷ l) (suc i) n h = omega (arith, sum-set l i n (le-of-suc-le-suc h))
 
-if-low : (b : Bool) (x y : Situation) → totalOf x < totalCount → totalOf y < totalCount → totalOf (if b then x else y) < totalCount
-if-low true x y h k = h
-if-low false x y h k = k
-
--- a pending task's situation has a total
-total-low : (s : State) (t : ℕ) → stand s t ≢ absent → totalOf (situation s t) < totalCount
-unfolding situation
-total-low s t h = rw (ne-eqb (stand s t) absent h) (
-    if-low (stand s t is suspended) Suspended _ (omega arith) (
-    if-low (ltb (runOf (s .processors) t) mostProcessors) _ _ (if-low (stand s t is spinning) Spinning Running (omega arith) (omega arith)) (
-    if-low (ltb (linkOf (s .processors) t) mostProcessors) LinkedOnly Ready (omega arith) (omega arith))))
+-- a job has a total in each situation, foremost or not
+pub total-low : (x t : ℕ) (p : Processors) (foremost : Bool) → x ≢ absent → totalOf (situationOf x p t) foremost < totalCount
+total-low x t p foremost h = rw (ne-eqb x absent h) (go (x is suspended) (ltb (runOf p t) mostProcessors) (x is spinning) (ltb (linkOf p t) mostProcessors) foremost)
+  where
+    go : (a b c d e : Bool) → totalOf (if a then Suspended else if b then (if c then Spinning else Running) else if d then LinkedOnly else Ready) e < totalCount
+    go true b c d true = omega arith
+    go true b c d false = omega arith
+    go false true true d e = omega arith
+    go false true false d e = omega arith
+    go false false c true e = omega arith
+    go false false c false e = omega arith
 
 -- a task after n ticks: as it was, but for the total that they go to
 aged : State → ℕ → ℕ → Task
-aged s n t = if stand s t isn't absent then counting (totalOf (situation s t)) n (task s t) else task s t
+aged s n t = if stand s t isn't absent then counting (totalFor s t) n (task s t) else task s t
 
 record Aged (s : State) (n t : ℕ) (x : Task) : Type 0 where
   standing : x .standing ≡ task s t .standing
@@ -141,16 +141,17 @@ record Aged (s : State) (n t : ℕ) (x : Task) : Type 0 where
   spent : sum (x .totals) ≡ sum (task s t .totals) + (if stand s t isn't absent then n else 0)
 
 module _ (s : State) (n : ℕ) (Z : Sized s) where
-  aged-is : (t : ℕ) (b : Bool) → (stand s t isn't absent) ≡ b → Aged s n t (if b then counting (totalOf (situation s t)) n (task s t) else task s t)
+  aged-is : (t : ℕ) (b : Bool) → (stand s t isn't absent) ≡ b → Aged s n t (if b then counting (totalFor s t) n (task s t) else task s t)
+  unfolding totalFor situation
   aged-is t true e =
-      let i = totalOf (situation s t) in
+      let i = totalFor s t in
       record {
         standing = refl;
         dated = (refl, refl, refl);
         depth = refl;
         requests = refl;
         sized = length-set (task s t .totals) i _;
-        spent = rw e (sum-set (task s t .totals) i n (omega (arith, Z .totals t, total-low s t (eqb-false _ _ (not-true _ e)))));
+        spent = rw e (sum-set (task s t .totals) i n (omega (arith, Z .totals t, total-low (stand s t) t (s .processors) (isForemost s t) (eqb-false _ _ (not-true _ e)))));
       }
   aged-is t false e = record { standing = refl; dated = (refl, refl, refl); depth = refl; requests = refl; sized = refl; spent = rw e (omega arith) }
 

@@ -1,74 +1,69 @@
--- `row_of` meets its contract. Assumes nothing.
+-- The loop's invariant: the numbers passed are in the row. Assumes nothing.
+use Prim.Native.Nat.{_+_, _*_, _≤_, _-_}
+use mathlib.Core.Path.{_≡_, refl}
+use mathlib.Core.List.{_++_}
+use native.Mathlib.Omega.{arith}
 use borrow.Author.Needs.{needs}
-use Rattle.locking.proofs.Totals.{row-read}
+use lib.ListN.{getD, drop, replicate}
+use Rattle.search.specs.Table.{table}
+use Rattle.search.proofs.Tables.{table-none, table-turn, table-all}
+use Rattle.protocol.specs.Records.{totalCount}
 use Rattle.locking.proofs.counting.row_of.Statement.{statement}
 use Rattle.locking.proofs.counting.row_of.Tie as tie
 
-mul-k : tie.Need-mul-k
-mul-k c = search needs
+abbrev Inv-loop : tie.InvT-loop
+Inv-loop totals t row₀ i₀ row i = (i ≤ totalCount) × (row ≡ table (λ j. getD totals (totalCount * t + j) 0) i ++ drop i row₀)
 
-mul-t4 : tie.Need-mul-t4
-mul-t4 c = search needs
+abbrev μ-loop : tie.MeasureT-loop
+μ-loop totals t row₀ i₀ row i = totalCount - i
 
-shared-slice-read-t6 : tie.Need-shared-slice-read-t6
-shared-slice-read-t6 c = search needs
+loop-holds : tie.Need-loop-holds Inv-loop μ-loop
+loop-holds c = (search needs, table-none (λ j. getD ((c .args) .totals .now) (totalCount * ((c .args) .t) + j) 0) _)
 
-add-t7 : tie.Need-add-t7
-add-t7 c = search needs
+mul-row : tie.Need-mul-row Inv-loop μ-loop
+mul-row c = search needs
 
-mul-t8 : tie.Need-mul-t8
-mul-t8 c = search needs
+add-row : tie.Need-add-row Inv-loop μ-loop
+add-row c = search needs
 
-shared-slice-read-t10 : tie.Need-shared-slice-read-t10
-shared-slice-read-t10 c = search needs
+mul-row-2 : tie.Need-mul-row-2 Inv-loop μ-loop
+mul-row-2 c = search needs
 
-add-t11 : tie.Need-add-t11
-add-t11 c = search needs
+shared-slice-read-row : tie.Need-shared-slice-read-row Inv-loop μ-loop
+shared-slice-read-row c = omega (arith, (c .before .before .before) .pre .0, (c .before .before .before) .pre .1, (c .before .loop-test) .taken)
 
-mul-t12 : tie.Need-mul-t12
-mul-t12 c = search needs
+mul-row-3 : tie.Need-mul-row-3 Inv-loop μ-loop
+mul-row-3 c = search needs
 
-shared-slice-read-t14 : tie.Need-shared-slice-read-t14
-shared-slice-read-t14 c = search needs
+array-write-row : tie.Need-array-write-row Inv-loop μ-loop
+array-write-row c = search needs
 
-add-t15 : tie.Need-add-t15
-add-t15 c = search needs
+add-i : tie.Need-add-i Inv-loop μ-loop
+add-i c = search needs
 
-mul-t16 : tie.Need-mul-t16
-mul-t16 c = search needs
+loop-less : tie.Need-loop-less Inv-loop μ-loop
+loop-less c = search needs
 
-shared-slice-read-t18 : tie.Need-shared-slice-read-t18
-shared-slice-read-t18 c = search needs
+loop-again : tie.Need-loop-again Inv-loop μ-loop
+loop-again c = (search needs, rw ((c .before .before .loop) .inv .1) (table-turn (λ j. getD ((c .before .before .before .args) .totals .now) (totalCount * ((c .before .before .before .args) .t) + j) 0) (replicate totalCount 0) ((c .before .before .loop) .i) (search needs)))
 
-add-t19 : tie.Need-add-t19
-add-t19 c = search needs
-
-mul-t20 : tie.Need-mul-t20
-mul-t20 c = search needs
-
-shared-slice-read-t22 : tie.Need-shared-slice-read-t22
-shared-slice-read-t22 c = search needs
-
-returns : tie.Need-returns
-returns c = row-read (c .before .before .before .before .before .args .totals .now) (c .before .before .before .before .before .args .t)
+returns : tie.Need-returns Inv-loop μ-loop
+returns c = let e : (c .before .loop) .i ≡ totalCount = omega arith in rw ((c .before .loop) .inv .1, e) (table-all (λ j. getD ((c .before .before .args) .totals .now) (totalCount * ((c .before .before .args) .t) + j) 0) (replicate totalCount 0) totalCount refl)
 
 pub row-of-spec : {M : Type 1} → statement M
 row-of-spec =
     tie.close
     (tie.spec
-    mul-k
-    mul-t4
-    shared-slice-read-t6
-    add-t7
-    mul-t8
-    shared-slice-read-t10
-    add-t11
-    mul-t12
-    shared-slice-read-t14
-    add-t15
-    mul-t16
-    shared-slice-read-t18
-    add-t19
-    mul-t20
-    shared-slice-read-t22
+    Inv-loop
+    μ-loop
+    loop-holds
+    mul-row
+    add-row
+    mul-row-2
+    shared-slice-read-row
+    mul-row-3
+    array-write-row
+    add-i
+    loop-less
+    loop-again
     returns)

@@ -23,6 +23,7 @@ use Rattle.protocol.specs.declared.Task.{Task}
 use Rattle.protocol.specs.declared.Group.{Group}
 use Rattle.protocol.specs.declared.State.{State}
 use Rattle.protocol.proofs.Sound.Reflect.{Shaped, sound-of-test}
+use Rattle.protocol.proofs.Events.Step.{grouped}
 use Rattle.states.proofs.Tables.{task-read, group-read}
 use Rattle.states.specs.Writing.{snapshotSize, snapshotOf}
 use Rattle.soundness.specs.declared.Tested.{Tested}
@@ -31,9 +32,10 @@ use Rattle.locking.specs.Keeping.{Keeps}
 use Rattle.locking.specs.Playing.{playedTo, writtenTo}
 use Rattle.locking.specs.Steps.{HasParts}
 use Rattle.locking.specs.declared.moving.Kept.{Kept}
-use Rattle.locking.specs.Totals.{rowOf, chargedTo}
+use Rattle.locking.specs.Ranking.{Ranked}
+use Rattle.locking.specs.Totals.{rowOf, totalWith, chargedTo}
 use Rattle.locking.proofs.Accepted.{step-answer, refused-stays, accepted-sound}
-use Rattle.locking.proofs.Accepting.{Accepts, few-tasks, clock-room, can-charge, task-in, may-edit, may-move, plays, next-may, next-moves, plays-on}
+use Rattle.locking.proofs.Accepting.{Accepts, turned, unturned, few-tasks, clock-room, can-charge, task-in, may-edit, may-move, may-rank, ranks-stay, plays, next-may, ranks-on, next-moves, plays-on}
 use Rattle.locking.proofs.Along.{sound-along, kept-along, few-along, long-along, room-along, played-turn, buffer-turn}
 use Rattle.locking.proofs.Keeping.{keeps-start, keeps-task, keeps-state}
 use Rattle.locking.proofs.Shapes.{shaped, periods-short}
@@ -46,26 +48,27 @@ abbrev begun : Setup → ℕ → List Task → List Group → Processors → Sta
 begun setup clock tasks groups p = record { setup = setup; clock = clock; tasks = tasks; groups = groups; processors = p }
 
 abbrev Inv-loop : tie.InvT-loop
-Inv-loop tested part count out₀ setup kinds naming clock₀ tasks₀ groups₀ p₀ totals₀ kept₀ at₀ i₀ out clock tasks groups p totals kept at i =
+Inv-loop tested part count out₀ setup kinds naming clock₀ tasks₀ groups₀ p₀ totals₀ kept₀ ahead₀ at₀ i₀ out clock tasks groups p totals kept ahead at i =
     (i ≤ count) × (at ≡ snapshotSize * i)
     × Keeps (playedTo (begun setup clock₀ tasks₀ groups₀ p₀) part i) clock tasks groups p totals (kept .own) (kept .modes) (kept .stands)
     × (out ≡ writtenTo (begun setup clock₀ tasks₀ groups₀ p₀) part out₀ i)
+    × (setup .tasks ≤ mostTasks → Ranked (kept .stands) (kept .own) (setup .tasks) ahead)
 
 abbrev μ-loop : tie.MeasureT-loop
-μ-loop tested part count out₀ setup kinds naming clock₀ tasks₀ groups₀ p₀ totals₀ kept₀ at₀ i₀ out clock tasks groups p totals kept at i = count - i
+μ-loop tested part count out₀ setup kinds naming clock₀ tasks₀ groups₀ p₀ totals₀ kept₀ ahead₀ at₀ i₀ out clock tasks groups p totals kept ahead at i = count - i
 
 abbrev reached : tie.At-loop Inv-loop μ-loop → State
-reached c = playedTo ((c .before .before .before .before .before .before .before .before .before .before .before) .args .state) ((c .before .before .before .before .before .before .before .before .before .before .before) .args .part .now) (c .loop .i)
+reached c = playedTo ((c .before .before .before .before .before .before .before .before .before .before .before .before .before .before .before) .args .state) ((c .before .before .before .before .before .before .before .before .before .before .before .before .before .before .before) .args .part .now) ((c .loop) .i)
 
-whole : (c : tie.At-loop Inv-loop μ-loop) → Shaped ((c .before .before .before .before .before .before .before .before .before .before .before) .args .state)
-whole c = shaped _ _ ((c .before .before .before .before .before .before .before .before .before .before .before) .good .0)
+whole : (c : tie.At-loop Inv-loop μ-loop) → Shaped ((c .before .before .before .before .before .before .before .before .before .before .before .before .before .before .before) .args .state)
+whole c = shaped _ _ ((c .before .before .before .before .before .before .before .before .before .before .before .before .before .before .before) .good .0)
 
 -- the record read is that of the event's task, but for its totals
-record-read : (c : tie.Joined1 Inv-loop μ-loop) → (w : List ℕ) × (task (reached (c .before .before .before .before)) (c .before .before .event-at .result .task) ≡ withTotals w (c .if1 .task))
+record-read : (c : tie.Joined1 Inv-loop μ-loop) → (w : List ℕ) × (task (reached (c .before .before .before .before)) ((c .before .before .event-at) .result .task) ≡ withTotals w ((c .if1) .task))
 record-read c =
-    let o = c .before .before .before .before .loop in
+    let o = (c .before .before .before .before .loop) in
     let K = o .inv .2 in
-    let t = c .before .before .event-at .result .task in
+    let t = (c .before .before .event-at) .result .task in
     let s = reached (c .before .before .before .before) in
     let long : length (s .tasks) ≡ mostTasks = ap length (K .recorded) ∙ counted-length (o .tasks) (o .totals) in
     ⊎-elim
@@ -75,14 +78,14 @@ record-read c =
           ∙ ap (withTotals (rowOf (o .totals) t)) (sym (w .2 ∙ task-read (o .tasks) t (omega (arith, K .few, w .0 .taken)))),
     ))
     (λ w. (noTask .totals, List·getD-eq-default (s .tasks) noTask (omega (arith, long, w .0 .left)) ∙ ap (withTotals (noTask .totals)) (sym (w .2 ∙ w .1 .ensures))))
-    (c .if1 .came)
+    ((c .if1) .came)
 
 -- what the answer is made of
 has-parts : (c : tie.After-judge-parts Inv-loop μ-loop)
-    → HasParts (reached (c .before .before .before .before .before)) ((c .before .before .before .before .before .before .before .before .before .before .before .before .before .before .before .before) .args .state .setup) (c .before .before .before .before .before .loop .clock) (c .before .if1 .task) (c .before .before .before .before .before .loop .p) ((c .before .before .before .before .before .before .before .before .before .before .before .before .before .before .before .before) .args .tested .naming) ((c .before .before .before .before .before .before .before .before .before .before .before .before .before .before .before .before) .args .tested .passes) (c .before .before .before .event-at .result)
+    → HasParts (reached (c .before .before .before .before .before)) ((c .before .before .before .before .before .before .before .before .before .before .before .before .before .before .before .before .before .before .before .before) .args .state .setup) ((c .before .before .before .before .before .loop) .clock) ((c .before .if1) .task) ((c .before .before .before .before .before .loop) .p) ((c .before .before .before .before .before .before .before .before .before .before .before .before .before .before .before .before .before .before .before .before) .args .tested .naming) ((c .before .before .before .before .before .before .before .before .before .before .before .before .before .before .before .before .before .before .before .before) .args .tested .passes) ((c .before .before .before .event-at) .result)
 has-parts c =
-    let o = c .before .before .before .before .before .loop in
-    let start = (c .before .before .before .before .before .before .before .before .before .before .before .before .before .before .before .before) in
+    let o = (c .before .before .before .before .before .loop) in
+    let start = (c .before .before .before .before .before .before .before .before .before .before .before .before .before .before .before .before .before .before .before .before) in
     let kept = kept-along (start .args .state) (start .args .part .now) (whole (c .before .before .before .before .before)) (o .i) in
     let read = record-read (c .before) in
     record {
@@ -97,64 +100,87 @@ has-parts c =
 
 -- an accepted event of a sound state
 accepts : (c : tie.After-step-to Inv-loop μ-loop)
-    → let o = c .before .before .before .before .before .before .before .loop in
-    Accepts (reached (c .before .before .before .before .before .before .before)) (c .before .before .before .before .before .event-at .result) ((c .before .before .before .before .before .before .before .before .before .before .before .before .before .before .before .before .before .before) .args .state .setup) (o .clock) (o .tasks) (o .groups) (o .p) (o .totals) (o .kept .own) (o .kept .modes) (o .kept .stands) (c .step-to .result)
+    → let o = (c .before .before .before .before .before .before .before .loop) in
+    Accepts (reached (c .before .before .before .before .before .before .before)) ((c .before .before .before .before .before .event-at) .result) ((c .before .before .before .before .before .before .before .before .before .before .before .before .before .before .before .before .before .before .before .before .before .before) .args .state .setup) (o .clock) (o .tasks) (o .groups) (o .p) (o .totals) (o .kept .own) (o .kept .modes) (o .kept .stands) (o .ahead) ((c .step-to) .result)
 accepts c =
-    let o = c .before .before .before .before .before .before .before .loop in
-    let start = (c .before .before .before .before .before .before .before .before .before .before .before .before .before .before .before .before .before .before) in
+    let o = (c .before .before .before .before .before .before .before .loop) in
+    let start = (c .before .before .before .before .before .before .before .before .before .before .before .before .before .before .before .before .before .before .before .before .before .before) in
     let s = reached (c .before .before .before .before .before .before .before) in
-    let e = c .before .before .before .before .before .event-at .result in
+    let e = (c .before .before .before .before .before .event-at) .result in
     let Z = whole (c .before .before .before .before .before .before .before) in
     let kept = kept-along (start .args .state) (start .args .part .now) Z (o .i) in
-    let ok : judge s e ≡ 0 = sym (c .before .before .judge-parts .ensures s (has-parts (c .before .before))) ∙ c .before .if2 .taken in
+    let ok : judge s e ≡ 0 = sym ((c .before .before .judge-parts) .ensures s (has-parts (c .before .before))) ∙ (c .before .if2) .taken in
+    let Q = sound-along (start .args .state) (start .args .part .now) (sound-of-test _ Z (sym (kept .0) ∙ accepted-sound s e ok)) (o .i) .0 in
+    let few = subst (λ (x : Setup). x .tasks ≤ mostTasks) (kept .1) (grouped s e Q ok .few-tasks) in
     record {
-      sound = sound-along (start .args .state) (start .args .part .now) (sound-of-test _ Z (sym (kept .0) ∙ accepted-sound s e ok)) (o .i) .0;
+      sound = Q;
       ok = ok;
       given = sym (kept .1);
       short = λ u. subst (λ (x : Setup). period x u < 65536) (sym (kept .1)) (periods-short (start .args .state) _ (start .good .0) u);
       keeps = o .inv .2;
-      stepped = c .step-to .ensures ∙ ap (λ (k : ℕ). ticksTo k (e .tick)) (o .inv .2 .timed);
+      ranked = subst (λ (x : Setup). Ranked (o .kept .stands) (o .kept .own) (x .tasks) (o .ahead)) (sym (kept .1)) (o .inv .4 few);
+      stepped = (c .step-to) .ensures ∙ ap (λ (k : ℕ). ticksTo k (e .tick)) (o .inv .2 .timed);
     }
 
-task-is : (c : tie.Joined1 Inv-loop μ-loop) → c .before .before .event-at .result .task < mostTasks → c .if1 .task ≡ getD (c .before .before .before .before .loop .tasks) (c .before .before .event-at .result .task) noTask
+task-is : (c : tie.Joined1 Inv-loop μ-loop) → (c .before .before .event-at) .result .task < mostTasks → (c .if1) .task ≡ getD ((c .before .before .before .before .loop) .tasks) ((c .before .before .event-at) .result .task) noTask
 task-is c l =
-    let o = c .before .before .before .before .loop in
-    ⊎-elim (λ w. w .2 ∙ task-read (o .tasks) (c .before .before .event-at .result .task) (omega (arith, o .inv .2 .few, w .0 .taken))) (λ w. absurd (omega (arith, w .0 .left, l))) (c .if1 .came)
+    let o = (c .before .before .before .before .loop) in
+    ⊎-elim (λ w. w .2 ∙ task-read (o .tasks) ((c .before .before .event-at) .result .task) (omega (arith, o .inv .2 .few, w .0 .taken))) (λ w. absurd (omega (arith, w .0 .left, l))) ((c .if1) .came)
 
 groups-long : (c : tie.After-step-to Inv-loop μ-loop) → length ((c .before .before .before .before .before .before .before .loop) .groups) ≡ mostResources
 groups-long c = ap length ((c .before .before .before .before .before .before .before .loop) .inv .2 .grouped) ∙ accepts c .sound .steady .sized .groups
 
-placed-at : (c : tie.After-place-in Inv-loop μ-loop) → getD (names ((c .before .before .before .before .before .before .before .before .before .before .before .before .before .before .before .before .before .before .before .before .before .before .before) .args .state .setup)) ((c .before .before .before .before .before .before .before .before .before .before .event-at) .result .resource) nobody < mostResources → c .place-in .result ≡ getD (names ((c .before .before .before .before .before .before .before .before .before .before .before .before .before .before .before .before .before .before .before .before .before .before .before) .args .state .setup)) ((c .before .before .before .before .before .before .before .before .before .before .event-at) .result .resource) nobody
-placed-at c = subst (λ (l : List ℕ). getD l ((c .before .before .before .before .before .before .before .before .before .before .event-at) .result .resource) nobody < mostResources → c .place-in .result ≡ getD l ((c .before .before .before .before .before .before .before .before .before .before .event-at) .result .resource) nobody) (ap (λ (y : Tested). y .naming) ((c .before .before .before .before .before .before .before .before .before .before .before .before .before .before .before .before .before .before .before .before .before .before .before) .pre .0)) (c .place-in .ensures .1)
+placed-at : (c : tie.After-place-in Inv-loop μ-loop) → getD (names ((c .before .before .before .before .before .before .before .before .before .before .before .before .before .before .before .before .before .before .before .before .before .before .before .before .before .before .before) .args .state .setup)) ((c .before .before .before .before .before .before .before .before .before .before .event-at) .result .resource) nobody < mostResources → (c .place-in) .result ≡ getD (names ((c .before .before .before .before .before .before .before .before .before .before .before .before .before .before .before .before .before .before .before .before .before .before .before .before .before .before .before) .args .state .setup)) ((c .before .before .before .before .before .before .before .before .before .before .event-at) .result .resource) nobody
+placed-at c = subst (λ (l : List ℕ). getD l ((c .before .before .before .before .before .before .before .before .before .before .event-at) .result .resource) nobody < mostResources → (c .place-in) .result ≡ getD l ((c .before .before .before .before .before .before .before .before .before .before .event-at) .result .resource) nobody) (ap (λ (y : Tested). y .naming) ((c .before .before .before .before .before .before .before .before .before .before .before .before .before .before .before .before .before .before .before .before .before .before .before .before .before .before .before) .pre .0)) ((c .place-in) .ensures .1)
 
-edit-is : (c : tie.After-edited Inv-loop μ-loop) → c .edited .result ≡ editing ((c .before .before .before .before .before .before .before .before .before .before .before .before .before .before .before .before .before .before .before .before .before .before .before .before .before .before) .args .state .setup .kinds) (dueAt ((c .before .before .before .before .before .before .before .before .before .before .before .before .before .before .before .before .before .before .before .before .before .before .before .before .before .before) .args .state .setup) ((c .before .before .before .before .before .before .before .before .before .before .before .before .before .event-at) .result .task) ((c .before .before .before .before .before .before .before .before .before .before .before .before .before .before .before .loop) .clock + (c .before .before .before .before .before .before .before .before .step-to) .result)) ((c .before .before .before .before .before .before .before .before .before .before .before .before .before .before .before .loop) .clock + (c .before .before .before .before .before .before .before .before .step-to) .result) (getD ((c .before .before .before .before .before .before .before .before .before .before .before .before .before .before .before .loop) .tasks) ((c .before .before .before .before .before .before .before .before .before .before .before .before .before .event-at) .result .task) noTask) (getD ((c .before .before .before .before .before .before .before .before .before .before .before .before .before .before .before .loop) .groups) ((c .before .before .before .place-in) .result) noGroup) ((c .before .before .before .before .before .before .before .before .before .before .before .before .before .event-at) .result)
-edit-is c = rw (c .before .due-at .ensures, task-is (c .before .before .before .before .before .before .before .before .before .before .before) (task-in (accepts (c .before .before .before .before .before .before .before .before))), group-read ((c .before .before .before .before .before .before .before .before .before .before .before .before .before .before .before .loop) .groups) ((c .before .before .before .place-in) .result) (omega (arith, groups-long (c .before .before .before .before .before .before .before .before), (c .before .before .before .place-in) .ensures .0))) at (c .edited .ensures)
+edit-is : (c : tie.After-edited Inv-loop μ-loop) → (c .edited) .result ≡ editing ((c .before .before .before .before .before .before .before .before .before .before .before .before .before .before .before .before .before .before .before .before .before .before .before .before .before .before .before .before .before .before) .args .state .setup .kinds) (dueAt ((c .before .before .before .before .before .before .before .before .before .before .before .before .before .before .before .before .before .before .before .before .before .before .before .before .before .before .before .before .before .before) .args .state .setup) ((c .before .before .before .before .before .before .before .before .before .before .before .before .before .event-at) .result .task) ((c .before .before .before .before .before .before .before .before .before .before .before .before .before .before .before .loop) .clock + (c .before .before .before .before .before .before .before .before .step-to) .result)) ((c .before .before .before .before .before .before .before .before .before .before .before .before .before .before .before .loop) .clock + (c .before .before .before .before .before .before .before .before .step-to) .result) (getD ((c .before .before .before .before .before .before .before .before .before .before .before .before .before .before .before .loop) .tasks) ((c .before .before .before .before .before .before .before .before .before .before .before .before .before .event-at) .result .task) noTask) (getD ((c .before .before .before .before .before .before .before .before .before .before .before .before .before .before .before .loop) .groups) ((c .before .before .before .place-in) .result) noGroup) ((c .before .before .before .before .before .before .before .before .before .before .before .before .before .event-at) .result)
+edit-is c = rw ((c .before .due-at) .ensures, task-is (c .before .before .before .before .before .before .before .before .before .before .before) (task-in (accepts (c .before .before .before .before .before .before .before .before))), group-read ((c .before .before .before .before .before .before .before .before .before .before .before .before .before .before .before .loop) .groups) ((c .before .before .before .place-in) .result) (omega (arith, groups-long (c .before .before .before .before .before .before .before .before), (c .before .before .before .place-in) .ensures .0))) at ((c .edited) .ensures)
 
 -- who is handed the group
-heir-in : (c : tie.Then3 Inv-loop μ-loop) → ((c .before .before .before .before .before .before .edited) .result .next < mostTasks) × (getD (set ((c .before .before .before .before .before .before .before .before .before .before .before .before .before .before .before .before .before .before .before .before .before .loop) .tasks) ((c .before .before .before .before .before .before .before .before .before .before .before .before .before .before .before .before .before .before .before .event-at) .result .task) ((c .before .before .before .before .before .before .edited) .result .task)) ((c .before .before .before .before .before .before .edited) .result .next) noTask .depth < mostRequests)
-heir-in c = next-may (accepts (c .before .before .before .before .before .before .before .before .before .before .before .before .before .before)) ((c .before .before .before .before .before .before .before .before .before .place-in) .result) ((c .before .before .before .before .before .before .before .before .before .place-in) .ensures .0) (placed-at (c .before .before .before .before .before .before .before .before .before)) ((c .before .before .before .before .before .before .edited) .result) (edit-is (c .before .before .before .before .before .before)) ((c .before .before .before .keep) .result .own) ((c .before .before .before .keep) .result .modes) ((c .before .before .before .keep) .result .stands) (ap (λ (k : Kept). k .own) ((c .before .before .before .keep) .ensures)) (ap (λ (k : Kept). k .modes) ((c .before .before .before .keep) .ensures)) (ap (λ (k : Kept). k .stands) ((c .before .before .before .keep) .ensures)) ((c .before .before .moved) .result) ((c .before .before .moved) .ensures) ((c .if3) .taken)
+heir-in : (c : tie.Then4 Inv-loop μ-loop) → ((c .before .before .before .before .before .before .before .before .before .edited) .result .next < mostTasks) × (getD (set ((c .before .before .before .before .before .before .before .before .before .before .before .before .before .before .before .before .before .before .before .before .before .before .before .before .loop) .tasks) ((c .before .before .before .before .before .before .before .before .before .before .before .before .before .before .before .before .before .before .before .before .before .before .event-at) .result .task) ((c .before .before .before .before .before .before .before .before .before .edited) .result .task)) ((c .before .before .before .before .before .before .before .before .before .edited) .result .next) noTask .depth < mostRequests)
+heir-in c = next-may (accepts (c .before .before .before .before .before .before .before .before .before .before .before .before .before .before .before .before .before)) ((c .before .before .before .before .before .before .before .before .before .before .before .before .place-in) .result) ((c .before .before .before .before .before .before .before .before .before .before .before .before .place-in) .ensures .0) (placed-at (c .before .before .before .before .before .before .before .before .before .before .before .before)) ((c .before .before .before .before .before .before .before .before .before .edited) .result) (edit-is (c .before .before .before .before .before .before .before .before .before)) ((c .before .before .before .before .before .before .keep) .result .own) ((c .before .before .before .before .before .before .keep) .result .modes) ((c .before .before .before .before .before .before .keep) .result .stands) (ap (λ (k : Kept). k .own) ((c .before .before .before .before .before .before .keep) .ensures)) (ap (λ (k : Kept). k .modes) ((c .before .before .before .before .before .before .keep) .ensures)) (ap (λ (k : Kept). k .stands) ((c .before .before .before .before .before .before .keep) .ensures)) ((c .before .before .moved) .result) ((c .before .before .moved) .ensures) ((c .if4) .taken)
 
-heir-is : (c : tie.After-hand-over Inv-loop μ-loop) → c .hand-over .result ≡ handing (getD (set ((c .before .before .before .before .before .before .before .before .before .before .before .before .before .before .before .before .before .before .before .before .before .before .before .before .loop) .tasks) ((c .before .before .before .before .before .before .before .before .before .before .before .before .before .before .before .before .before .before .before .before .before .before .event-at) .result .task) ((c .before .before .before .before .before .before .before .before .before .edited) .result .task)) ((c .before .before .before .before .before .before .before .before .before .edited) .result .next) noTask) ((c .before .before .before .before .before .before .before .before .before .edited) .result .group) ((c .before .before .before .before .before .before .before .before .before .edited) .result .turn) ((c .before .before .before .before .before .before .before .before .before .edited) .result .next)
-heir-is c = rw (task-read (set ((c .before .before .before .before .before .before .before .before .before .before .before .before .before .before .before .before .before .before .before .before .before .before .before .before .loop) .tasks) ((c .before .before .before .before .before .before .before .before .before .before .before .before .before .before .before .before .before .before .before .before .before .before .event-at) .result .task) ((c .before .before .before .before .before .before .before .before .before .edited) .result .task)) ((c .before .before .before .before .before .before .before .before .before .edited) .result .next) (omega (arith, length-set ((c .before .before .before .before .before .before .before .before .before .before .before .before .before .before .before .before .before .before .before .before .before .before .before .before .loop) .tasks) ((c .before .before .before .before .before .before .before .before .before .before .before .before .before .before .before .before .before .before .before .before .before .before .event-at) .result .task) ((c .before .before .before .before .before .before .before .before .before .edited) .result .task), (c .before .before .before .before .before .before .before .before .before .before .before .before .before .before .before .before .before .before .before .before .before .before .before .before .loop) .inv .2 .few, heir-in (c .before .before .before) .0))) at (c .hand-over .ensures)
+heir-is : (c : tie.After-hand-over Inv-loop μ-loop) → (c .hand-over) .result ≡ handing (getD (set ((c .before .before .before .before .before .before .before .before .before .before .before .before .before .before .before .before .before .before .before .before .before .before .before .before .before .before .before .loop) .tasks) ((c .before .before .before .before .before .before .before .before .before .before .before .before .before .before .before .before .before .before .before .before .before .before .before .before .before .event-at) .result .task) ((c .before .before .before .before .before .before .before .before .before .before .before .before .edited) .result .task)) ((c .before .before .before .before .before .before .before .before .before .before .before .before .edited) .result .next) noTask) ((c .before .before .before .before .before .before .before .before .before .before .before .before .edited) .result .group) ((c .before .before .before .before .before .before .before .before .before .before .before .before .edited) .result .turn) ((c .before .before .before .before .before .before .before .before .before .before .before .before .edited) .result .next)
+heir-is c = rw (task-read (set ((c .before .before .before .before .before .before .before .before .before .before .before .before .before .before .before .before .before .before .before .before .before .before .before .before .before .before .before .loop) .tasks) ((c .before .before .before .before .before .before .before .before .before .before .before .before .before .before .before .before .before .before .before .before .before .before .before .before .before .event-at) .result .task) ((c .before .before .before .before .before .before .before .before .before .before .before .before .edited) .result .task)) ((c .before .before .before .before .before .before .before .before .before .before .before .before .edited) .result .next) (omega (arith, length-set ((c .before .before .before .before .before .before .before .before .before .before .before .before .before .before .before .before .before .before .before .before .before .before .before .before .before .before .before .loop) .tasks) ((c .before .before .before .before .before .before .before .before .before .before .before .before .before .before .before .before .before .before .before .before .before .before .before .before .before .event-at) .result .task) ((c .before .before .before .before .before .before .before .before .before .before .before .before .edited) .result .task), (c .before .before .before .before .before .before .before .before .before .before .before .before .before .before .before .before .before .before .before .before .before .before .before .before .before .before .before .loop) .inv .2 .few, heir-in (c .before .before .before) .0))) at ((c .hand-over) .ensures)
 
-handed-on : (c : tie.After-moved2 Inv-loop μ-loop) → Keeps (step (reached (c .before .before .before .before .before .before .before .before .before .before .before .before .before .before .before .before .before .before .before .before .before .before .before .before .before .before .before .before)) ((c .before .before .before .before .before .before .before .before .before .before .before .before .before .before .before .before .before .before .before .before .before .before .before .before .before .before .event-at) .result) .state) ((c .before .before .before .before .before .before .before .before .before .before .before .before .before .before .before .before .before .before .before .before .before .before .before .before .before .before .before .before .loop) .clock + (c .before .before .before .before .before .before .before .before .before .before .before .before .before .before .before .before .before .before .before .before .before .step-to) .result) (set (set ((c .before .before .before .before .before .before .before .before .before .before .before .before .before .before .before .before .before .before .before .before .before .before .before .before .before .before .before .before .loop) .tasks) ((c .before .before .before .before .before .before .before .before .before .before .before .before .before .before .before .before .before .before .before .before .before .before .before .before .before .before .event-at) .result .task) ((c .before .before .before .before .before .before .before .before .before .before .before .before .before .edited) .result .task)) ((c .before .before .before .before .before .before .before .before .before .before .before .before .before .edited) .result .next) ((c .before .before .before .before .hand-over) .result .task)) (set (set ((c .before .before .before .before .before .before .before .before .before .before .before .before .before .before .before .before .before .before .before .before .before .before .before .before .before .before .before .before .loop) .groups) ((c .before .before .before .before .before .before .before .before .before .before .before .before .before .before .before .before .place-in) .result) ((c .before .before .before .before .before .before .before .before .before .before .before .before .before .edited) .result .group)) ((c .before .before .before .before .before .before .before .before .before .before .before .before .before .before .before .before .place-in) .result) ((c .before .before .before .before .hand-over) .result .group)) ((c .moved2) .result) (chargedTo ((c .before .before .before .before .before .before .before .before .before .before .before .before .before .before .before .before .before .before .before .before .before .before .before .before .before .before .before .before .loop) .p) ((c .before .before .before .before .before .before .before .before .before .before .before .before .before .before .before .before .before .before .before .before .before .step-to) .result) ((c .before .before .before .before .before .before .before .before .before .before .before .before .before .before .before .before .before .before .before .before .before .before .before .before .before .before .before .before .loop) .kept .stands) ((c .before .before .before .before .before .before .before .before .before .before .before .before .before .before .before .before .before .before .before .before .before .before .before .before .before .before .before .before .loop) .totals) ((c .before .before .before .before .before .before .before .before .before .before .before .before .before .before .before .before .before .before .before .before .before .before .before .before .before .before .before .before .before .before .before .before .before .before .before .before .before .before .before) .args .state .setup .tasks)) ((c .before .keep2) .result .own) ((c .before .keep2) .result .modes) ((c .before .keep2) .result .stands)
-handed-on c = plays-on (accepts (c .before .before .before .before .before .before .before .before .before .before .before .before .before .before .before .before .before .before .before .before .before)) ((c .before .before .before .before .before .before .before .before .before .before .before .before .before .before .before .before .place-in) .result) ((c .before .before .before .before .before .before .before .before .before .before .before .before .before .before .before .before .place-in) .ensures .0) (placed-at (c .before .before .before .before .before .before .before .before .before .before .before .before .before .before .before .before)) ((c .before .before .before .before .before .before .before .before .before .before .before .before .before .edited) .result) (edit-is (c .before .before .before .before .before .before .before .before .before .before .before .before .before)) ((c .before .before .before .before .before .before .before .before .before .before .keep) .result .own) ((c .before .before .before .before .before .before .before .before .before .before .keep) .result .modes) ((c .before .before .before .before .before .before .before .before .before .before .keep) .result .stands) (ap (λ (k : Kept). k .own) ((c .before .before .before .before .before .before .before .before .before .before .keep) .ensures)) (ap (λ (k : Kept). k .modes) ((c .before .before .before .before .before .before .before .before .before .before .keep) .ensures)) (ap (λ (k : Kept). k .stands) ((c .before .before .before .before .before .before .before .before .before .before .keep) .ensures)) ((c .before .before .before .before .before .before .before .before .before .moved) .result) ((c .before .before .before .before .before .before .before .before .before .moved) .ensures) ((c .before .before .before .before .before .before .before .if3) .taken) ((c .before .before .before .before .hand-over) .result) (heir-is (c .before .before .before .before)) ((c .before .keep2) .result .own) ((c .before .keep2) .result .modes) ((c .before .keep2) .result .stands) (ap (λ (k : Kept). k .own) ((c .before .keep2) .ensures)) (ap (λ (k : Kept). k .modes) ((c .before .keep2) .ensures)) (ap (λ (k : Kept). k .stands) ((c .before .keep2) .ensures)) ((c .moved2) .result) ((c .moved2) .ensures)
+handed-on : (c : tie.After-moved2 Inv-loop μ-loop) → Keeps (step (reached (c .before .before .before .before .before .before .before .before .before .before .before .before .before .before .before .before .before .before .before .before .before .before .before .before .before .before .before .before .before .before .before)) ((c .before .before .before .before .before .before .before .before .before .before .before .before .before .before .before .before .before .before .before .before .before .before .before .before .before .before .before .before .before .event-at) .result) .state) ((c .before .before .before .before .before .before .before .before .before .before .before .before .before .before .before .before .before .before .before .before .before .before .before .before .before .before .before .before .before .before .before .loop) .clock + (c .before .before .before .before .before .before .before .before .before .before .before .before .before .before .before .before .before .before .before .before .before .before .before .before .step-to) .result) (set (set ((c .before .before .before .before .before .before .before .before .before .before .before .before .before .before .before .before .before .before .before .before .before .before .before .before .before .before .before .before .before .before .before .loop) .tasks) ((c .before .before .before .before .before .before .before .before .before .before .before .before .before .before .before .before .before .before .before .before .before .before .before .before .before .before .before .before .before .event-at) .result .task) ((c .before .before .before .before .before .before .before .before .before .before .before .before .before .before .before .before .edited) .result .task)) ((c .before .before .before .before .before .before .before .before .before .before .before .before .before .before .before .before .edited) .result .next) ((c .before .before .before .before .hand-over) .result .task)) (set (set ((c .before .before .before .before .before .before .before .before .before .before .before .before .before .before .before .before .before .before .before .before .before .before .before .before .before .before .before .before .before .before .before .loop) .groups) ((c .before .before .before .before .before .before .before .before .before .before .before .before .before .before .before .before .before .before .before .place-in) .result) ((c .before .before .before .before .before .before .before .before .before .before .before .before .before .before .before .before .edited) .result .group)) ((c .before .before .before .before .before .before .before .before .before .before .before .before .before .before .before .before .before .before .before .place-in) .result) ((c .before .before .before .before .hand-over) .result .group)) ((c .moved2) .result) (chargedTo ((c .before .before .before .before .before .before .before .before .before .before .before .before .before .before .before .before .before .before .before .before .before .before .before .before .step-to) .result) ((c .before .before .before .before .before .before .before .before .before .before .before .before .before .before .before .before .before .before .before .before .before .before .before .before .before .before .before .before .before .before .before .loop) .kept .stands) (totalWith ((c .before .before .before .before .before .before .before .before .before .before .before .before .before .before .before .before .before .before .before .before .before .before .before .before .before .before .before .before .before .before .before .loop) .kept .stands) ((c .before .before .before .before .before .before .before .before .before .before .before .before .before .before .before .before .before .before .before .before .before .before .before .before .before .before .before .before .before .before .before .loop) .ahead) ((c .before .before .before .before .before .before .before .before .before .before .before .before .before .before .before .before .before .before .before .before .before .before .before .before .before .before .before .before .before .before .before .loop) .p)) ((c .before .before .before .before .before .before .before .before .before .before .before .before .before .before .before .before .before .before .before .before .before .before .before .before .before .before .before .before .before .before .before .loop) .totals) ((c .before .before .before .before .before .before .before .before .before .before .before .before .before .before .before .before .before .before .before .before .before .before .before .before .before .before .before .before .before .before .before .before .before .before .before .before .before .before .before .before .before .before .before .before .before .before) .args .state .setup .tasks)) ((c .before .keep2) .result .own) ((c .before .keep2) .result .modes) ((c .before .keep2) .result .stands)
+handed-on c = plays-on (accepts (c .before .before .before .before .before .before .before .before .before .before .before .before .before .before .before .before .before .before .before .before .before .before .before .before)) ((c .before .before .before .before .before .before .before .before .before .before .before .before .before .before .before .before .before .before .before .place-in) .result) ((c .before .before .before .before .before .before .before .before .before .before .before .before .before .before .before .before .before .before .before .place-in) .ensures .0) (placed-at (c .before .before .before .before .before .before .before .before .before .before .before .before .before .before .before .before .before .before .before)) ((c .before .before .before .before .before .before .before .before .before .before .before .before .before .before .before .before .edited) .result) (edit-is (c .before .before .before .before .before .before .before .before .before .before .before .before .before .before .before .before)) ((c .before .before .before .before .before .before .before .before .before .before .before .before .before .keep) .result .own) ((c .before .before .before .before .before .before .before .before .before .before .before .before .before .keep) .result .modes) ((c .before .before .before .before .before .before .before .before .before .before .before .before .before .keep) .result .stands) (ap (λ (k : Kept). k .own) ((c .before .before .before .before .before .before .before .before .before .before .before .before .before .keep) .ensures)) (ap (λ (k : Kept). k .modes) ((c .before .before .before .before .before .before .before .before .before .before .before .before .before .keep) .ensures)) (ap (λ (k : Kept). k .stands) ((c .before .before .before .before .before .before .before .before .before .before .before .before .before .keep) .ensures)) ((c .before .before .before .before .before .before .before .before .before .moved) .result) ((c .before .before .before .before .before .before .before .before .before .moved) .ensures) ((c .before .before .before .before .before .before .before .if4) .taken) ((c .before .before .before .before .hand-over) .result) (heir-is (c .before .before .before .before)) ((c .before .keep2) .result .own) ((c .before .keep2) .result .modes) ((c .before .keep2) .result .stands) (ap (λ (k : Kept). k .own) ((c .before .keep2) .ensures)) (ap (λ (k : Kept). k .modes) ((c .before .keep2) .ensures)) (ap (λ (k : Kept). k .stands) ((c .before .keep2) .ensures)) ((c .moved2) .result) ((c .moved2) .ensures)
 
-ended-on : (c : tie.Else3 Inv-loop μ-loop) → Keeps (step (reached (c .before .before .before .before .before .before .before .before .before .before .before .before .before .before .before .before .before .before .before .before .before)) ((c .before .before .before .before .before .before .before .before .before .before .before .before .before .before .before .before .before .before .before .event-at) .result) .state) ((c .before .before .before .before .before .before .before .before .before .before .before .before .before .before .before .before .before .before .before .before .before .loop) .clock + (c .before .before .before .before .before .before .before .before .before .before .before .before .before .before .step-to) .result) (set ((c .before .before .before .before .before .before .before .before .before .before .before .before .before .before .before .before .before .before .before .before .before .loop) .tasks) ((c .before .before .before .before .before .before .before .before .before .before .before .before .before .before .before .before .before .before .before .event-at) .result .task) ((c .before .before .before .before .before .before .edited) .result .task)) (set ((c .before .before .before .before .before .before .before .before .before .before .before .before .before .before .before .before .before .before .before .before .before .loop) .groups) ((c .before .before .before .before .before .before .before .before .before .place-in) .result) ((c .before .before .before .before .before .before .edited) .result .group)) ((c .before .before .moved) .result) (chargedTo ((c .before .before .before .before .before .before .before .before .before .before .before .before .before .before .before .before .before .before .before .before .before .loop) .p) ((c .before .before .before .before .before .before .before .before .before .before .before .before .before .before .step-to) .result) ((c .before .before .before .before .before .before .before .before .before .before .before .before .before .before .before .before .before .before .before .before .before .loop) .kept .stands) ((c .before .before .before .before .before .before .before .before .before .before .before .before .before .before .before .before .before .before .before .before .before .loop) .totals) ((c .before .before .before .before .before .before .before .before .before .before .before .before .before .before .before .before .before .before .before .before .before .before .before .before .before .before .before .before .before .before .before .before) .args .state .setup .tasks)) ((c .before .before .before .keep) .result .own) ((c .before .before .before .keep) .result .modes) ((c .before .before .before .keep) .result .stands)
-ended-on c = plays (accepts (c .before .before .before .before .before .before .before .before .before .before .before .before .before .before)) ((c .before .before .before .before .before .before .before .before .before .place-in) .result) ((c .before .before .before .before .before .before .before .before .before .place-in) .ensures .0) (placed-at (c .before .before .before .before .before .before .before .before .before)) ((c .before .before .before .before .before .before .edited) .result) (edit-is (c .before .before .before .before .before .before)) ((c .before .before .before .keep) .result .own) ((c .before .before .before .keep) .result .modes) ((c .before .before .before .keep) .result .stands) (ap (λ (k : Kept). k .own) ((c .before .before .before .keep) .ensures)) (ap (λ (k : Kept). k .modes) ((c .before .before .before .keep) .ensures)) (ap (λ (k : Kept). k .stands) ((c .before .before .before .keep) .ensures)) ((c .before .before .moved) .result) ((c .before .before .moved) .ensures) ((c .if3) .left)
+ended-on : (c : tie.Else4 Inv-loop μ-loop) → Keeps (step (reached (c .before .before .before .before .before .before .before .before .before .before .before .before .before .before .before .before .before .before .before .before .before .before .before .before)) ((c .before .before .before .before .before .before .before .before .before .before .before .before .before .before .before .before .before .before .before .before .before .before .event-at) .result) .state) ((c .before .before .before .before .before .before .before .before .before .before .before .before .before .before .before .before .before .before .before .before .before .before .before .before .loop) .clock + (c .before .before .before .before .before .before .before .before .before .before .before .before .before .before .before .before .before .step-to) .result) (set ((c .before .before .before .before .before .before .before .before .before .before .before .before .before .before .before .before .before .before .before .before .before .before .before .before .loop) .tasks) ((c .before .before .before .before .before .before .before .before .before .before .before .before .before .before .before .before .before .before .before .before .before .before .event-at) .result .task) ((c .before .before .before .before .before .before .before .before .before .edited) .result .task)) (set ((c .before .before .before .before .before .before .before .before .before .before .before .before .before .before .before .before .before .before .before .before .before .before .before .before .loop) .groups) ((c .before .before .before .before .before .before .before .before .before .before .before .before .place-in) .result) ((c .before .before .before .before .before .before .before .before .before .edited) .result .group)) ((c .before .before .moved) .result) (chargedTo ((c .before .before .before .before .before .before .before .before .before .before .before .before .before .before .before .before .before .step-to) .result) ((c .before .before .before .before .before .before .before .before .before .before .before .before .before .before .before .before .before .before .before .before .before .before .before .before .loop) .kept .stands) (totalWith ((c .before .before .before .before .before .before .before .before .before .before .before .before .before .before .before .before .before .before .before .before .before .before .before .before .loop) .kept .stands) ((c .before .before .before .before .before .before .before .before .before .before .before .before .before .before .before .before .before .before .before .before .before .before .before .before .loop) .ahead) ((c .before .before .before .before .before .before .before .before .before .before .before .before .before .before .before .before .before .before .before .before .before .before .before .before .loop) .p)) ((c .before .before .before .before .before .before .before .before .before .before .before .before .before .before .before .before .before .before .before .before .before .before .before .before .loop) .totals) ((c .before .before .before .before .before .before .before .before .before .before .before .before .before .before .before .before .before .before .before .before .before .before .before .before .before .before .before .before .before .before .before .before .before .before .before .before .before .before .before) .args .state .setup .tasks)) ((c .before .before .before .before .before .before .keep) .result .own) ((c .before .before .before .before .before .before .keep) .result .modes) ((c .before .before .before .before .before .before .keep) .result .stands)
+ended-on c = plays (accepts (c .before .before .before .before .before .before .before .before .before .before .before .before .before .before .before .before .before)) ((c .before .before .before .before .before .before .before .before .before .before .before .before .place-in) .result) ((c .before .before .before .before .before .before .before .before .before .before .before .before .place-in) .ensures .0) (placed-at (c .before .before .before .before .before .before .before .before .before .before .before .before)) ((c .before .before .before .before .before .before .before .before .before .edited) .result) (edit-is (c .before .before .before .before .before .before .before .before .before)) ((c .before .before .before .before .before .before .keep) .result .own) ((c .before .before .before .before .before .before .keep) .result .modes) ((c .before .before .before .before .before .before .keep) .result .stands) (ap (λ (k : Kept). k .own) ((c .before .before .before .before .before .before .keep) .ensures)) (ap (λ (k : Kept). k .modes) ((c .before .before .before .before .before .before .keep) .ensures)) (ap (λ (k : Kept). k .stands) ((c .before .before .before .before .before .before .keep) .ensures)) ((c .before .before .moved) .result) ((c .before .before .moved) .ensures) ((c .if4) .left)
+
+-- who outranks whom after the first edit
+ranked-edit : (c : tie.Joined3 Inv-loop μ-loop) → Ranked ((c .before .before .before .keep) .result .stands) ((c .before .before .before .keep) .result .own) ((c .before .before .before .before .before .before .before .before .before .before .before .before .before .before .before .before .before .before .before .before .before .before .before .before .before .before .before .before .before .before .before .before .before .before .before .before) .args .state .setup .tasks) ((c .if3) .ahead)
+ranked-edit c =
+    ⊎-elim
+    (λ w. rw (w .7) (w .5 .ensures))
+    (λ w. let still = unturned ((c .before .before .before .before .before .before .edited) .result .turn) (w .0 .left) in rw (w .1) (ranks-stay (accepts (c .before .before .before .before .before .before .before .before .before .before .before .before .before .before)) ((c .before .before .before .before .before .before .before .before .before .place-in) .result) ((c .before .before .before .before .before .before .before .before .before .place-in) .ensures .0) (placed-at (c .before .before .before .before .before .before .before .before .before)) ((c .before .before .before .before .before .before .edited) .result) (edit-is (c .before .before .before .before .before .before)) ((c .before .before .before .keep) .result .own) ((c .before .before .before .keep) .result .modes) ((c .before .before .before .keep) .result .stands) (ap (λ (k : Kept). k .own) ((c .before .before .before .keep) .ensures)) (ap (λ (k : Kept). k .modes) ((c .before .before .before .keep) .ensures)) (ap (λ (k : Kept). k .stands) ((c .before .before .before .keep) .ensures)) (still .0) (still .1)))
+    ((c .if3) .came)
+
+handed-ranks : (c : tie.After-moved2 Inv-loop μ-loop) → Ranked ((c .before .keep2) .result .stands) ((c .before .keep2) .result .own) ((c .before .before .before .before .before .before .before .before .before .before .before .before .before .before .before .before .before .before .before .before .before .before .before .before .before .before .before .before .before .before .before .before .before .before .before .before .before .before .before .before .before .before .before .before .before .before) .args .state .setup .tasks) ((c .before .before .before .before .before .before .before .before .before .before .if3) .ahead)
+handed-ranks c = ranks-on (accepts (c .before .before .before .before .before .before .before .before .before .before .before .before .before .before .before .before .before .before .before .before .before .before .before .before)) ((c .before .before .before .before .before .before .before .before .before .before .before .before .before .before .before .before .before .before .before .place-in) .result) ((c .before .before .before .before .before .before .before .before .before .before .before .before .before .before .before .before .before .before .before .place-in) .ensures .0) (placed-at (c .before .before .before .before .before .before .before .before .before .before .before .before .before .before .before .before .before .before .before)) ((c .before .before .before .before .before .before .before .before .before .before .before .before .before .before .before .before .edited) .result) (edit-is (c .before .before .before .before .before .before .before .before .before .before .before .before .before .before .before .before)) ((c .before .before .before .before .before .before .before .before .before .before .before .before .before .keep) .result .own) ((c .before .before .before .before .before .before .before .before .before .before .before .before .before .keep) .result .modes) ((c .before .before .before .before .before .before .before .before .before .before .before .before .before .keep) .result .stands) (ap (λ (k : Kept). k .own) ((c .before .before .before .before .before .before .before .before .before .before .before .before .before .keep) .ensures)) (ap (λ (k : Kept). k .modes) ((c .before .before .before .before .before .before .before .before .before .before .before .before .before .keep) .ensures)) (ap (λ (k : Kept). k .stands) ((c .before .before .before .before .before .before .before .before .before .before .before .before .before .keep) .ensures)) ((c .before .before .before .before .before .before .before .before .before .moved) .result) ((c .before .before .before .before .before .before .before .before .before .moved) .ensures) ((c .before .before .before .before .before .before .before .if4) .taken) ((c .before .before .before .before .hand-over) .result) (heir-is (c .before .before .before .before)) ((c .before .keep2) .result .own) ((c .before .keep2) .result .modes) ((c .before .keep2) .result .stands) (ap (λ (k : Kept). k .own) ((c .before .keep2) .ensures)) (ap (λ (k : Kept). k .modes) ((c .before .keep2) .ensures)) (ap (λ (k : Kept). k .stands) ((c .before .keep2) .ensures)) ((c .before .before .before .before .before .before .before .before .before .before .if3) .ahead) (ranked-edit (c .before .before .before .before .before .before .before .before .before .before))
 
 -- however the event was answered
-answered : (c : tie.Joined2 Inv-loop μ-loop) → c .before .judge-parts .result ≡ judge (reached (c .before .before .before .before .before .before)) ((c .before .before .before .before .event-at) .result)
-answered c = c .before .judge-parts .ensures _ (has-parts (c .before))
+answered : (c : tie.Joined2 Inv-loop μ-loop) → (c .before .judge-parts) .result ≡ judge (reached (c .before .before .before .before .before .before)) ((c .before .before .before .before .event-at) .result)
+answered c = (c .before .judge-parts) .ensures _ (has-parts (c .before))
 
-goes-on : (c : tie.Joined2 Inv-loop μ-loop) → Keeps (step (reached (c .before .before .before .before .before .before)) ((c .before .before .before .before .event-at) .result) .state) (c .if2 .clock) (c .if2 .tasks) (c .if2 .groups) (c .if2 .p) (c .if2 .totals) (c .if2 .kept .own) (c .if2 .kept .modes) (c .if2 .kept .stands)
+goes-on : (c : tie.Joined2 Inv-loop μ-loop) → Keeps (step (reached (c .before .before .before .before .before .before)) ((c .before .before .before .before .event-at) .result) .state) ((c .if2) .clock) ((c .if2) .tasks) ((c .if2) .groups) ((c .if2) .p) ((c .if2) .totals) ((c .if2) .kept .own) ((c .if2) .kept .modes) ((c .if2) .kept .stands)
 goes-on c =
     ⊎-elim
-    (λ w. rw (w .23, w .24, w .25, w .26, w .27 ∙ w .4 .ensures, w .28) (handed-on (record { before = record { before = record { before = record { before = record { before = record { before = record { before = record { before = record { before = record { before = record { before = record { before = record { before = record { before = record { before = record { before = record { before = record { before = record { before = record { before = record { before = record { before = record { before = c .before; if2 = w .0 }; step-to = w .1 }; stands = w .2 }; totals = w .3 }; charge = w .4 }; totals2 = w .5 }; place-in = w .6 }; held = w .7 }; due-at = w .8 }; edited = w .9 }; mine = w .10 }; group = w .11 }; keep = w .12 }; moved = w .13 }; struct-known2 = w .14 }; if3 = w .15 }; struct-known3 = w .16 }; waits = w .17 }; hand-over = w .18 }; heir = w .19 }; passed = w .20 }; keep2 = w .21 }; moved2 = w .22 })))
+    (λ w. rw (w .26, w .27, w .28, w .29, w .30 ∙ w .4 .ensures, w .31) (handed-on (record { before = record { before = record { before = record { before = record { before = record { before = record { before = record { before = record { before = record { before = record { before = record { before = record { before = record { before = record { before = record { before = record { before = record { before = record { before = record { before = record { before = record { before = record { before = record { before = record { before = record { before = (c .before); if2 = w .0 }; step-to = w .1 }; stands = w .2 }; totals = w .3 }; charge = w .4 }; totals2 = w .5 }; place-in = w .6 }; held = w .7 }; due-at = w .8 }; edited = w .9 }; mine = w .10 }; group = w .11 }; keep = w .12 }; struct-known2 = w .13 }; struct-known3 = w .14 }; if3 = w .15 }; moved = w .16 }; struct-known4 = w .17 }; if4 = w .18 }; struct-known5 = w .19 }; waits = w .20 }; hand-over = w .21 }; heir = w .22 }; passed = w .23 }; keep2 = w .24 }; moved2 = w .25 })))
     (⊎-elim
-    (λ w. rw (w .16, w .17, w .18, w .19, w .20 ∙ w .4 .ensures, w .21) (ended-on (record { before = record { before = record { before = record { before = record { before = record { before = record { before = record { before = record { before = record { before = record { before = record { before = record { before = record { before = record { before = record { before = c .before; if2 = w .0 }; step-to = w .1 }; stands = w .2 }; totals = w .3 }; charge = w .4 }; totals2 = w .5 }; place-in = w .6 }; held = w .7 }; due-at = w .8 }; edited = w .9 }; mine = w .10 }; group = w .11 }; keep = w .12 }; moved = w .13 }; struct-known2 = w .14 }; if3 = w .15 })))
+    (λ w. rw (w .19, w .20, w .21, w .22, w .23 ∙ w .4 .ensures, w .24) (ended-on (record { before = record { before = record { before = record { before = record { before = record { before = record { before = record { before = record { before = record { before = record { before = record { before = record { before = record { before = record { before = record { before = record { before = record { before = record { before = (c .before); if2 = w .0 }; step-to = w .1 }; stands = w .2 }; totals = w .3 }; charge = w .4 }; totals2 = w .5 }; place-in = w .6 }; held = w .7 }; due-at = w .8 }; edited = w .9 }; mine = w .10 }; group = w .11 }; keep = w .12 }; struct-known2 = w .13 }; struct-known3 = w .14 }; if3 = w .15 }; moved = w .16 }; struct-known4 = w .17 }; if4 = w .18 })))
     (λ w. rw (w .1, w .2, w .3, w .4, w .5, w .6, refused-stays (reached (c .before .before .before .before .before .before)) ((c .before .before .before .before .event-at) .result) (λ q. w .0 .left (answered c ∙ q))) ((c .before .before .before .before .before .before .loop) .inv .2)))
-    (c .if2 .came)
+    ((c .if2) .came)
+
+ranks-go-on : (c : tie.Joined2 Inv-loop μ-loop) → (c .before .before .before .before .before .before .before .before .before .before .before .before .before .before .before .before .before .before .before .before .before) .args .state .setup .tasks ≤ mostTasks → Ranked ((c .if2) .kept .stands) ((c .if2) .kept .own) ((c .before .before .before .before .before .before .before .before .before .before .before .before .before .before .before .before .before .before .before .before .before) .args .state .setup .tasks) ((c .if2) .ahead)
+ranks-go-on c few =
+    ⊎-elim
+    (λ w. rw (w .31, w .32) (handed-ranks (record { before = record { before = record { before = record { before = record { before = record { before = record { before = record { before = record { before = record { before = record { before = record { before = record { before = record { before = record { before = record { before = record { before = record { before = record { before = record { before = record { before = record { before = record { before = record { before = record { before = record { before = (c .before); if2 = w .0 }; step-to = w .1 }; stands = w .2 }; totals = w .3 }; charge = w .4 }; totals2 = w .5 }; place-in = w .6 }; held = w .7 }; due-at = w .8 }; edited = w .9 }; mine = w .10 }; group = w .11 }; keep = w .12 }; struct-known2 = w .13 }; struct-known3 = w .14 }; if3 = w .15 }; moved = w .16 }; struct-known4 = w .17 }; if4 = w .18 }; struct-known5 = w .19 }; waits = w .20 }; hand-over = w .21 }; heir = w .22 }; passed = w .23 }; keep2 = w .24 }; moved2 = w .25 })))
+    (⊎-elim
+    (λ w. rw (w .24, w .25) (ranked-edit (record { before = record { before = record { before = record { before = record { before = record { before = record { before = record { before = record { before = record { before = record { before = record { before = record { before = record { before = record { before = record { before = (c .before); if2 = w .0 }; step-to = w .1 }; stands = w .2 }; totals = w .3 }; charge = w .4 }; totals2 = w .5 }; place-in = w .6 }; held = w .7 }; due-at = w .8 }; edited = w .9 }; mine = w .10 }; group = w .11 }; keep = w .12 }; struct-known2 = w .13 }; struct-known3 = w .14 }; if3 = w .15 })))
+    (λ w. rw (w .6, w .7) ((c .before .before .before .before .before .before .loop) .inv .4 few)))
+    ((c .if2) .came)
 
 totals-of-requires : tie.Need-totals-of-requires Inv-loop μ-loop
 totals-of-requires c κs = search needs
@@ -162,9 +188,12 @@ totals-of-requires c κs = search needs
 kept-of-requires : tie.Need-kept-of-requires Inv-loop μ-loop
 kept-of-requires c κs = search needs
 
+all-ahead-requires : tie.Need-all-ahead-requires Inv-loop μ-loop
+all-ahead-requires c κs = search needs
+
 loop-holds : tie.Need-loop-holds Inv-loop μ-loop
 unfolding playedTo writtenTo
-loop-holds c = (omega arith, refl, rw ((c .before .totals-of) .ensures, (c .kept-of) .ensures) (keeps-start ((c .before .before .before .before .before .before .before .before .before .before) .args .state) (shaped _ _ ((c .before .before .before .before .before .before .before .before .before .before) .good .0))), refl)
+loop-holds c = (omega arith, refl, rw ((c .before .before .before .before .before .totals-of) .ensures, (c .before .before .before .before .kept-of) .ensures) (keeps-start ((c .before .before .before .before .before .before .before .before .before .before .before .before .before .before) .args .state) (shaped _ _ ((c .before .before .before .before .before .before .before .before .before .before .before .before .before .before) .good .0))), refl, (c .all-ahead) .ensures)
 
 event-at-requires : tie.Need-event-at-requires Inv-loop μ-loop
 event-at-requires c κs = search needs
@@ -182,7 +211,7 @@ no-task-requires : tie.Need-no-task-requires Inv-loop μ-loop
 no-task-requires c κs = search needs
 
 judge-parts-requires : tie.Need-judge-parts-requires Inv-loop μ-loop
-judge-parts-requires c κs = λ known. let read = record-read c in omega (arith, ap (λ (x : Task). x .depth) (read .1), few-along ((c .before .before .before .before .before .before .before .before .before .before .before .before .before .before .before) .args .state) ((c .before .before .before .before .before .before .before .before .before .before .before .before .before .before .before) .args .part .now) (whole (c .before .before .before .before)) ((c .before .before .before .before .loop) .i) (sym (ap (λ (y : Tested). y .passes) ((c .before .before .before .before .before .before .before .before .before .before .before .before .before .before .before) .pre .0)) ∙ known) ((c .before .before .event-at) .result .task))
+judge-parts-requires c κs = λ known. let read = record-read c in omega (arith, ap (λ (x : Task). x .depth) (read .1), few-along ((c .before .before .before .before .before .before .before .before .before .before .before .before .before .before .before .before .before .before .before) .args .state) ((c .before .before .before .before .before .before .before .before .before .before .before .before .before .before .before .before .before .before .before) .args .part .now) (whole (c .before .before .before .before)) ((c .before .before .before .before .loop) .i) (sym (ap (λ (y : Tested). y .passes) ((c .before .before .before .before .before .before .before .before .before .before .before .before .before .before .before .before .before .before .before) .pre .0)) ∙ known) ((c .before .before .event-at) .result .task))
 
 step-to-requires : tie.Need-step-to-requires Inv-loop μ-loop
 step-to-requires c κs = search needs
@@ -229,8 +258,14 @@ array-set-from-groups c = search needs
 keep-requires : tie.Need-keep-requires Inv-loop μ-loop
 keep-requires c κs = task-in (accepts (c .before .before .before .before .before .before .before .before .before .before))
 
+slice-aggregate-rank-again : tie.Need-slice-aggregate-rank-again Inv-loop μ-loop
+slice-aggregate-rank-again c = let l = accepts (c .before .before .before .before .before .before .before .before .before .before .before .before .before .before .before) .ranked .long in search needs
+
+rank-again-requires : tie.Need-rank-again-requires Inv-loop μ-loop
+rank-again-requires c κs = rw (task-is (c .before .before .before .before .before .before .before .before .before .before .before .before .before .before .before .before .before .before .before .before .before) (task-in (accepts (c .before .before .before .before .before .before .before .before .before .before .before .before .before .before .before .before .before .before)))) (may-rank (accepts (c .before .before .before .before .before .before .before .before .before .before .before .before .before .before .before .before .before .before)) ((c .before .before .before .before .before .before .before .before .before .before .before .before .before .place-in) .result) ((c .before .before .before .before .before .before .before .before .before .before .before .before .before .place-in) .ensures .0) (placed-at (c .before .before .before .before .before .before .before .before .before .before .before .before .before)) ((c .before .before .before .before .before .before .before .before .before .before .edited) .result) (edit-is (c .before .before .before .before .before .before .before .before .before .before)) ((c .before .before .before .before .before .before .before .keep) .result .own) ((c .before .before .before .before .before .before .before .keep) .result .modes) ((c .before .before .before .before .before .before .before .keep) .result .stands) (ap (λ (k : Kept). k .own) ((c .before .before .before .before .before .before .before .keep) .ensures)) (ap (λ (k : Kept). k .modes) ((c .before .before .before .before .before .before .before .keep) .ensures)) (ap (λ (k : Kept). k .stands) ((c .before .before .before .before .before .before .before .keep) .ensures)) (turned ((c .before .before .before .before .before .before .before .before .before .before .edited) .result .turn) ((c .before .before .before .before .if3) .taken)))
+
 moved-requires : tie.Need-moved-requires Inv-loop μ-loop
-moved-requires c κs = may-move (accepts (c .before .before .before .before .before .before .before .before .before .before .before)) ((c .before .before .before .before .before .before .place-in) .result) ((c .before .before .before .before .before .before .place-in) .ensures .0) (placed-at (c .before .before .before .before .before .before)) ((c .before .before .before .edited) .result) (edit-is (c .before .before .before)) ((c .keep) .result .own) ((c .keep) .result .modes) ((c .keep) .result .stands) (ap (λ (k : Kept). k .own) ((c .keep) .ensures)) (ap (λ (k : Kept). k .modes) ((c .keep) .ensures)) (ap (λ (k : Kept). k .stands) ((c .keep) .ensures))
+moved-requires c κs = may-move (accepts (c .before .before .before .before .before .before .before .before .before .before .before .before .before .before)) ((c .before .before .before .before .before .before .before .before .before .place-in) .result) ((c .before .before .before .before .before .before .before .before .before .place-in) .ensures .0) (placed-at (c .before .before .before .before .before .before .before .before .before)) ((c .before .before .before .before .before .before .edited) .result) (edit-is (c .before .before .before .before .before .before)) ((c .before .before .before .keep) .result .own) ((c .before .before .before .keep) .result .modes) ((c .before .before .before .keep) .result .stands) (ap (λ (k : Kept). k .own) ((c .before .before .before .keep) .ensures)) (ap (λ (k : Kept). k .modes) ((c .before .before .before .keep) .ensures)) (ap (λ (k : Kept). k .stands) ((c .before .before .before .keep) .ensures))
 
 cast-u : tie.Need-cast-u Inv-loop μ-loop
 cast-u c = search needs
@@ -242,7 +277,7 @@ array-copy-out-waits : tie.Need-array-copy-out-waits Inv-loop μ-loop
 array-copy-out-waits c = heir-in (c .before) .0
 
 hand-over-requires : tie.Need-hand-over-requires Inv-loop μ-loop
-hand-over-requires c κs = rw (task-read (set ((c .before .before .before .before .before .before .before .before .before .before .before .before .before .before .before .before .before .before .before .before .before .before .before .loop) .tasks) ((c .before .before .before .before .before .before .before .before .before .before .before .before .before .before .before .before .before .before .before .before .before .event-at) .result .task) ((c .before .before .before .before .before .before .before .before .edited) .result .task)) ((c .before .before .before .before .before .before .before .before .edited) .result .next) (omega (arith, length-set ((c .before .before .before .before .before .before .before .before .before .before .before .before .before .before .before .before .before .before .before .before .before .before .before .loop) .tasks) ((c .before .before .before .before .before .before .before .before .before .before .before .before .before .before .before .before .before .before .before .before .before .event-at) .result .task) ((c .before .before .before .before .before .before .before .before .edited) .result .task), (c .before .before .before .before .before .before .before .before .before .before .before .before .before .before .before .before .before .before .before .before .before .before .before .loop) .inv .2 .few, heir-in (c .before .before) .0))) (heir-in (c .before .before) .1)
+hand-over-requires c κs = rw (task-read (set ((c .before .before .before .before .before .before .before .before .before .before .before .before .before .before .before .before .before .before .before .before .before .before .before .before .before .before .loop) .tasks) ((c .before .before .before .before .before .before .before .before .before .before .before .before .before .before .before .before .before .before .before .before .before .before .before .before .event-at) .result .task) ((c .before .before .before .before .before .before .before .before .before .before .before .edited) .result .task)) ((c .before .before .before .before .before .before .before .before .before .before .before .edited) .result .next) (omega (arith, length-set ((c .before .before .before .before .before .before .before .before .before .before .before .before .before .before .before .before .before .before .before .before .before .before .before .before .before .before .loop) .tasks) ((c .before .before .before .before .before .before .before .before .before .before .before .before .before .before .before .before .before .before .before .before .before .before .before .before .event-at) .result .task) ((c .before .before .before .before .before .before .before .before .before .before .before .edited) .result .task), (c .before .before .before .before .before .before .before .before .before .before .before .before .before .before .before .before .before .before .before .before .before .before .before .before .before .before .loop) .inv .2 .few, heir-in (c .before .before) .0))) (heir-in (c .before .before) .1)
 
 mul-tasks-2 : tie.Need-mul-tasks-2 Inv-loop μ-loop
 mul-tasks-2 c = let l = heir-in (c .before .before .before .before .before) .0 in search needs
@@ -251,22 +286,22 @@ array-set-from-tasks-2 : tie.Need-array-set-from-tasks-2 Inv-loop μ-loop
 array-set-from-tasks-2 c = heir-in (c .before .before .before .before .before) .0
 
 mul-groups-2 : tie.Need-mul-groups-2 Inv-loop μ-loop
-mul-groups-2 c = let l = (c .before .before .before .before .before .before .before .before .before .before .before .before .before .before .place-in) .ensures .0 in search needs
+mul-groups-2 c = let l = (c .before .before .before .before .before .before .before .before .before .before .before .before .before .before .before .before .before .place-in) .ensures .0 in search needs
 
 array-set-from-groups-2 : tie.Need-array-set-from-groups-2 Inv-loop μ-loop
-array-set-from-groups-2 c = (c .before .before .before .before .before .before .before .before .before .before .before .before .before .before .place-in) .ensures .0
+array-set-from-groups-2 c = (c .before .before .before .before .before .before .before .before .before .before .before .before .before .before .before .before .before .place-in) .ensures .0
 
 keep-requires-2 : tie.Need-keep-requires-2 Inv-loop μ-loop
 keep-requires-2 c κs = heir-in (c .before .before .before .before .before) .0
 
 moved-requires-2 : tie.Need-moved-requires-2 Inv-loop μ-loop
-moved-requires-2 c κs = next-moves (accepts (c .before .before .before .before .before .before .before .before .before .before .before .before .before .before .before .before .before .before .before .before)) ((c .before .before .before .before .before .before .before .before .before .before .before .before .before .before .before .place-in) .result) ((c .before .before .before .before .before .before .before .before .before .before .before .before .before .before .before .place-in) .ensures .0) (placed-at (c .before .before .before .before .before .before .before .before .before .before .before .before .before .before .before)) ((c .before .before .before .before .before .before .before .before .before .before .before .before .edited) .result) (edit-is (c .before .before .before .before .before .before .before .before .before .before .before .before)) ((c .before .before .before .before .before .before .before .before .before .keep) .result .own) ((c .before .before .before .before .before .before .before .before .before .keep) .result .modes) ((c .before .before .before .before .before .before .before .before .before .keep) .result .stands) (ap (λ (k : Kept). k .own) ((c .before .before .before .before .before .before .before .before .before .keep) .ensures)) (ap (λ (k : Kept). k .modes) ((c .before .before .before .before .before .before .before .before .before .keep) .ensures)) (ap (λ (k : Kept). k .stands) ((c .before .before .before .before .before .before .before .before .before .keep) .ensures)) ((c .before .before .before .before .before .before .before .before .moved) .result) ((c .before .before .before .before .before .before .before .before .moved) .ensures) ((c .before .before .before .before .before .before .if3) .taken) ((c .before .before .before .hand-over) .result) (heir-is (c .before .before .before)) ((c .keep2) .result .own) ((c .keep2) .result .modes) ((c .keep2) .result .stands) (ap (λ (k : Kept). k .own) ((c .keep2) .ensures)) (ap (λ (k : Kept). k .modes) ((c .keep2) .ensures)) (ap (λ (k : Kept). k .stands) ((c .keep2) .ensures))
+moved-requires-2 c κs = next-moves (accepts (c .before .before .before .before .before .before .before .before .before .before .before .before .before .before .before .before .before .before .before .before .before .before .before)) ((c .before .before .before .before .before .before .before .before .before .before .before .before .before .before .before .before .before .before .place-in) .result) ((c .before .before .before .before .before .before .before .before .before .before .before .before .before .before .before .before .before .before .place-in) .ensures .0) (placed-at (c .before .before .before .before .before .before .before .before .before .before .before .before .before .before .before .before .before .before)) ((c .before .before .before .before .before .before .before .before .before .before .before .before .before .before .before .edited) .result) (edit-is (c .before .before .before .before .before .before .before .before .before .before .before .before .before .before .before)) ((c .before .before .before .before .before .before .before .before .before .before .before .before .keep) .result .own) ((c .before .before .before .before .before .before .before .before .before .before .before .before .keep) .result .modes) ((c .before .before .before .before .before .before .before .before .before .before .before .before .keep) .result .stands) (ap (λ (k : Kept). k .own) ((c .before .before .before .before .before .before .before .before .before .before .before .before .keep) .ensures)) (ap (λ (k : Kept). k .modes) ((c .before .before .before .before .before .before .before .before .before .before .before .before .keep) .ensures)) (ap (λ (k : Kept). k .stands) ((c .before .before .before .before .before .before .before .before .before .before .before .before .keep) .ensures)) ((c .before .before .before .before .before .before .before .before .moved) .result) ((c .before .before .before .before .before .before .before .before .moved) .ensures) ((c .before .before .before .before .before .before .if4) .taken) ((c .before .before .before .hand-over) .result) (heir-is (c .before .before .before)) ((c .keep2) .result .own) ((c .keep2) .result .modes) ((c .keep2) .result .stands) (ap (λ (k : Kept). k .own) ((c .keep2) .ensures)) (ap (λ (k : Kept). k .modes) ((c .keep2) .ensures)) (ap (λ (k : Kept). k .stands) ((c .keep2) .ensures))
 
 snapshot-of-requires : tie.Need-snapshot-of-requires Inv-loop μ-loop
 snapshot-of-requires c κs = search needs
 
 put-snapshot-requires : tie.Need-put-snapshot-requires Inv-loop μ-loop
-put-snapshot-requires c κs = rw ((c .before .before .before .before .before .before .before .before .loop) .inv .1, (c .before .before .before .before .before .before .before .before .loop) .inv .3) (room-along ((c .before .before .before .before .before .before .before .before .before .before .before .before .before .before .before .before .before .before .before) .args .state) ((c .before .before .before .before .before .before .before .before .before .before .before .before .before .before .before .before .before .before .before) .args .part .now) ((c .before .before .before .before .before .before .before .before .before .before .before .before .before .before .before .before .before .before .before) .args .out .now) ((c .before .before .before .before .before .before .before .before .loop) .i) (omega (arith, (c .before .before .before .before .before .before .before .loop-test) .taken, (c .before .before .before .before .before .before .before .before .before .before .before .before .before .before .before .before .before .before .before) .pre .1)))
+put-snapshot-requires c κs = rw ((c .before .before .before .before .before .before .before .before .loop) .inv .1, (c .before .before .before .before .before .before .before .before .loop) .inv .3) (room-along ((c .before .before .before .before .before .before .before .before .before .before .before .before .before .before .before .before .before .before .before .before .before .before .before) .args .state) ((c .before .before .before .before .before .before .before .before .before .before .before .before .before .before .before .before .before .before .before .before .before .before .before) .args .part .now) ((c .before .before .before .before .before .before .before .before .before .before .before .before .before .before .before .before .before .before .before .before .before .before .before) .args .out .now) ((c .before .before .before .before .before .before .before .before .loop) .i) (omega (arith, (c .before .before .before .before .before .before .before .loop-test) .taken, (c .before .before .before .before .before .before .before .before .before .before .before .before .before .before .before .before .before .before .before .before .before .before .before) .pre .1)))
 
 add-i : tie.Need-add-i Inv-loop μ-loop
 add-i c = search needs
@@ -280,22 +315,23 @@ loop-again c =
     let s = reached (c .before .before .before .before .before .before .before .before .before .before .before) in
     let e = (c .before .before .before .before .before .before .before .before .before .event-at) .result in
     let K = goes-on (c .before .before .before .before .before) in
-    let replied : step s e .state ≡ step s (eventIn ((c .before .before .before .before .before .before .before .before .before .before .before .before .before .before .before .before .before .before .before .before .before .before) .args .part .now) (o .i)) .state = ap (λ (x : Event). step s x .state) ((c .before .before .before .before .before .before .before .before .before .event-at) .ensures) in
-    let said : (c .before .before .before .before .before .before .judge-parts) .result ≡ step s (eventIn ((c .before .before .before .before .before .before .before .before .before .before .before .before .before .before .before .before .before .before .before .before .before .before) .args .part .now) (o .i)) .answer = answered (c .before .before .before .before .before) ∙ sym (step-answer s e) ∙ ap (λ (x : Event). step s x .answer) ((c .before .before .before .before .before .before .before .before .before .event-at) .ensures) in (
+    let replied : step s e .state ≡ step s (eventIn ((c .before .before .before .before .before .before .before .before .before .before .before .before .before .before .before .before .before .before .before .before .before .before .before .before .before .before) .args .part .now) (o .i)) .state = ap (λ (x : Event). step s x .state) ((c .before .before .before .before .before .before .before .before .before .event-at) .ensures) in
+    let said : (c .before .before .before .before .before .before .judge-parts) .result ≡ step s (eventIn ((c .before .before .before .before .before .before .before .before .before .before .before .before .before .before .before .before .before .before .before .before .before .before .before .before .before .before) .args .part .now) (o .i)) .answer = answered (c .before .before .before .before .before) ∙ sym (step-answer s e) ∙ ap (λ (x : Event). step s x .answer) ((c .before .before .before .before .before .before .before .before .before .event-at) .ensures) in (
       omega (arith, (c .before .before .before .before .before .before .before .before .before .before .loop-test) .taken),
       omega (arith, (c .before .before .put-snapshot) .ensures .0, o .inv .1),
-      subst (λ (x : State). Keeps x ((c .before .before .before .before .before .if2) .clock) ((c .before .before .before .before .before .if2) .tasks) ((c .before .before .before .before .before .if2) .groups) ((c .before .before .before .before .before .if2) .p) ((c .before .before .before .before .before .if2) .totals) ((c .before .before .before .before .before .if2) .kept .own) ((c .before .before .before .before .before .if2) .kept .modes) ((c .before .before .before .before .before .if2) .kept .stands)) (played-turn ((c .before .before .before .before .before .before .before .before .before .before .before .before .before .before .before .before .before .before .before .before .before .before) .args .state) ((c .before .before .before .before .before .before .before .before .before .before .before .before .before .before .before .before .before .before .before .before .before .before) .args .part .now) (o .i) (step s e .state) replied) K,
-      (rw (o .inv .1, o .inv .3) at ((c .before .before .put-snapshot) .ensures .1)) ∙ buffer-turn ((c .before .before .before .before .before .before .before .before .before .before .before .before .before .before .before .before .before .before .before .before .before .before) .args .state) ((c .before .before .before .before .before .before .before .before .before .before .before .before .before .before .before .before .before .before .before .before .before .before) .args .part .now) ((c .before .before .before .before .before .before .before .before .before .before .before .before .before .before .before .before .before .before .before .before .before .before) .args .out .now) (o .i) ((c .before .before .before .before .before .before .judge-parts) .result) (step s e .state) ((c .before .before .before .snapshot-of) .result) said replied ((c .before .before .before .snapshot-of) .ensures ∙ ap (snapshotOf ((c .before .before .before .before .before .before .judge-parts) .result)) (K .placed)),
+      subst (λ (x : State). Keeps x ((c .before .before .before .before .before .if2) .clock) ((c .before .before .before .before .before .if2) .tasks) ((c .before .before .before .before .before .if2) .groups) ((c .before .before .before .before .before .if2) .p) ((c .before .before .before .before .before .if2) .totals) ((c .before .before .before .before .before .if2) .kept .own) ((c .before .before .before .before .before .if2) .kept .modes) ((c .before .before .before .before .before .if2) .kept .stands)) (played-turn ((c .before .before .before .before .before .before .before .before .before .before .before .before .before .before .before .before .before .before .before .before .before .before .before .before .before .before) .args .state) ((c .before .before .before .before .before .before .before .before .before .before .before .before .before .before .before .before .before .before .before .before .before .before .before .before .before .before) .args .part .now) (o .i) (step s e .state) replied) K,
+      (rw (o .inv .1, o .inv .3) at ((c .before .before .put-snapshot) .ensures .1)) ∙ buffer-turn ((c .before .before .before .before .before .before .before .before .before .before .before .before .before .before .before .before .before .before .before .before .before .before .before .before .before .before) .args .state) ((c .before .before .before .before .before .before .before .before .before .before .before .before .before .before .before .before .before .before .before .before .before .before .before .before .before .before) .args .part .now) ((c .before .before .before .before .before .before .before .before .before .before .before .before .before .before .before .before .before .before .before .before .before .before .before .before .before .before) .args .out .now) (o .i) ((c .before .before .before .before .before .before .judge-parts) .result) (step s e .state) ((c .before .before .before .snapshot-of) .result) said replied ((c .before .before .before .snapshot-of) .ensures ∙ ap (snapshotOf ((c .before .before .before .before .before .before .judge-parts) .result)) (K .placed)),
+      ranks-go-on (c .before .before .before .before .before),
     )
 
 with-totals-requires : tie.Need-with-totals-requires Inv-loop μ-loop
 with-totals-requires c κs = search needs
 
 same-length : tie.Need-same-length Inv-loop μ-loop
-same-length c = ap length ((c .before .before .loop) .inv .3) ∙ long-along ((c .before .before .before .before .before .before .before .before .before .before .before .before .before) .args .state) ((c .before .before .before .before .before .before .before .before .before .before .before .before .before) .args .part .now) ((c .before .before .before .before .before .before .before .before .before .before .before .before .before) .args .out .now) ((c .before .before .loop) .i)
+same-length c = ap length ((c .before .before .loop) .inv .3) ∙ long-along ((c .before .before .before .before .before .before .before .before .before .before .before .before .before .before .before .before .before) .args .state) ((c .before .before .before .before .before .before .before .before .before .before .before .before .before .before .before .before .before) .args .part .now) ((c .before .before .before .before .before .before .before .before .before .before .before .before .before .before .before .before .before) .args .out .now) ((c .before .before .loop) .i)
 
 returns : tie.Need-returns Inv-loop μ-loop
-returns c = let o = (c .before .before .loop) in let all : o .i ≡ (c .before .before .before .before .before .before .before .before .before .before .before .before .before) .args .count = omega (arith, (c .before .loop-test) .left, o .inv .0) in (keeps-state _ _ _ _ _ _ _ _ _ (o .inv .2) _ _ (sym (kept-along ((c .before .before .before .before .before .before .before .before .before .before .before .before .before) .args .state) ((c .before .before .before .before .before .before .before .before .before .before .before .before .before) .args .part .now) (whole (c .before .before)) (o .i) .1)) ((c .with-totals) .ensures) ∙ ap (playedTo ((c .before .before .before .before .before .before .before .before .before .before .before .before .before) .args .state) ((c .before .before .before .before .before .before .before .before .before .before .before .before .before) .args .part .now)) all, o .inv .3 ∙ ap (writtenTo ((c .before .before .before .before .before .before .before .before .before .before .before .before .before) .args .state) ((c .before .before .before .before .before .before .before .before .before .before .before .before .before) .args .part .now) ((c .before .before .before .before .before .before .before .before .before .before .before .before .before) .args .out .now)) all)
+returns c = let o = (c .before .before .loop) in let all : o .i ≡ (c .before .before .before .before .before .before .before .before .before .before .before .before .before .before .before .before .before) .args .count = omega (arith, (c .before .loop-test) .left, o .inv .0) in (keeps-state _ _ _ _ _ _ _ _ _ (o .inv .2) _ _ (sym (kept-along ((c .before .before .before .before .before .before .before .before .before .before .before .before .before .before .before .before .before) .args .state) ((c .before .before .before .before .before .before .before .before .before .before .before .before .before .before .before .before .before) .args .part .now) (whole (c .before .before)) (o .i) .1)) ((c .with-totals) .ensures) ∙ ap (playedTo ((c .before .before .before .before .before .before .before .before .before .before .before .before .before .before .before .before .before) .args .state) ((c .before .before .before .before .before .before .before .before .before .before .before .before .before .before .before .before .before) .args .part .now)) all, o .inv .3 ∙ ap (writtenTo ((c .before .before .before .before .before .before .before .before .before .before .before .before .before .before .before .before .before) .args .state) ((c .before .before .before .before .before .before .before .before .before .before .before .before .before .before .before .before .before) .args .part .now) ((c .before .before .before .before .before .before .before .before .before .before .before .before .before .before .before .before .before) .args .out .now)) all)
 
 pub play-events-spec : {M : Type 1} → statement M
 play-events-spec =
@@ -305,6 +341,7 @@ play-events-spec =
     μ-loop
     totals-of-requires
     kept-of-requires
+    all-ahead-requires
     loop-holds
     event-at-requires
     cast-t
@@ -327,6 +364,8 @@ play-events-spec =
     mul-groups
     array-set-from-groups
     keep-requires
+    slice-aggregate-rank-again
+    rank-again-requires
     moved-requires
     cast-u
     mul-waits
