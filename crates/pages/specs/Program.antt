@@ -36,7 +36,8 @@ pub record Begins (blocks : List (List ℕ)) : Type 0 where
   pub opens : refusalOf (firstBlock blocks) 0 ≡ 0
   pub setup : setupRefusal (setupOf blocks) ≡ 0
 
--- demand 3 at every line, before the first of some events and after each; and the totals sum to the ticks pending
+-- demand 3 at every line, before the first of some events and after each; and the six totals of each task sum to the
+-- ticks that it has been pending
 abbrev pub DemandsHold : Setup → List Event → Type 0
 DemandsHold c es = (n : ℕ) → Demand3 c (plain (take n es)) × TotalsSum c (plain (take n es))
 

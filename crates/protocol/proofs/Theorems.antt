@@ -60,7 +60,7 @@ pub charges-after : AlwaysCharges
 charges-after c g ms pick e t ok h = charges (after c ms) pick e t (Q c g ms) ok h
 
 pub totals-sum-after : AlwaysSums
-totals-sum-after c g ms t = totals-after c g ms t
+totals-sum-after c g ms t = (Q c g ms .steady .sized .totals t, totals-after c g ms t)
 
 pub foremost-are-highest : ForemostAreHighest
 foremost-are-highest = foremost-highest

@@ -7,7 +7,7 @@ use mathlib.Core.Bool.{Bool, true, false, not, _&&_}
 use mathlib.Core.List.{List, [], _∷_, _++_}
 use mathlib.Core.Logic.{_≢_, _⊎_, _↔_}
 use lib.Dec.{ltb}
-use lib.ListN.{getD, set}
+use lib.ListN.{length, getD, set}
 use Rattle.search.specs.Words.{if_then_else_, _is_, _isn't_}
 use Rattle.search.specs.Below.{howMany}
 use Rattle.numbers.specs.Limits.{mostProcessors, mostTasks, nobody}
@@ -22,7 +22,7 @@ use Rattle.setups.specs.Clearing.{isClear}
 use Rattle.input.specs.declared.Setup.{Setup}
 use Rattle.input.specs.declared.Event.{Event}
 use Rattle.protocol.specs.Words.{lastClock, absent, active, spinning, suspended, sum, task, stand, asked, depth, request, holder, len, waiter, group}
-use Rattle.protocol.specs.Records.{noTask, noGroup}
+use Rattle.protocol.specs.Records.{totalCount, noTask, noGroup}
 use Rattle.protocol.specs.Sound.{sound}
 use Rattle.protocol.specs.Ranks.{shortOpen, effective, jobs}
 use Rattle.protocol.specs.Situations.{outranks, isForemost, totalFor}
@@ -157,9 +157,10 @@ pendingTicks s (m ∷ ms) t pending since =
     else if accepts s e finish && e .task is t then (next .clock - since) + pendingTicks next ms t false 0
     else pendingTicks next ms t pending since
 
--- the six totals of a task sum to the ticks that it has been pending; no task is pending at the start
+-- a task has six totals, and they sum to the ticks that it has been pending; no task is pending at the start
 abbrev pub TotalsSum : Setup → List Move → Type 0
-TotalsSum c ms = (t : ℕ) → sum (task (after c ms) t .totals) ≡ pendingTicks (begin c .state) ms t false 0
+TotalsSum c ms = (t : ℕ) → let totals = task (after c ms) t .totals in
+    (length totals ≡ totalCount) × (sum totals ≡ pendingTicks (begin c .state) ms t false 0)
 
 -- the ticks of an accepted step go, for a pending task, to one total, by the state before the event; else nowhere
 abbrev pub Charges : State → Prefers → Event → ℕ → Type 0
@@ -172,7 +173,7 @@ Charges s pick e t =
 -- the foremost jobs are exactly the m highest-priority pending ones, or all if fewer, by own priority: who outranks a
 -- foremost job is foremost, and so many are
 pub record ForemostHighest (s : State) : Type 0 where
-  pub higher : (t u : ℕ) → u < mostTasks → outranks s t u ≡ true → isForemost s t ≡ true → isForemost s u ≡ true
+  pub higher : (t u : ℕ) → u < mostTasks → outranks s u t ≡ true → isForemost s t ≡ true → isForemost s u ≡ true
   pub many : howMany (λ t. stand s t isn't absent && isForemost s t) mostTasks
       ≡ min (s .setup .processors) (howMany (λ t. stand s t isn't absent) mostTasks)
 
