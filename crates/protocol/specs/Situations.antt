@@ -31,11 +31,11 @@ situation s t = situationOf (stand s t) (s .processors) t
 
 -- u is pending, suspended or not, and has a higher priority than t; each by its own, inherited priority not counted
 abbrev pub outranks : State → ℕ → ℕ → Bool
-outranks s t u = stand s u isn't absent && ltb (own s u) (own s t)
+outranks s u t = stand s u isn't absent && ltb (own s u) (own s t)
 
 -- t's job is one of the m highest-priority pending ones: fewer than m outrank it
 unfoldable pub isForemost : State → ℕ → Bool
-isForemost s t = ltb (howMany (outranks s t) mostTasks) (s .setup .processors)
+isForemost s t = ltb (howMany (λ u. outranks s u t) mostTasks) (s .setup .processors)
 
 -- the total of a job in a situation, foremost or not, in the order printed: a suspended job is directly blocked while
 -- it is foremost, and suspended otherwise; a task without a job has none

@@ -24,10 +24,13 @@ unfolding isForemost
 foremost-highest s = record {
   higher = λ t u g o f.
       let z = simp tests at o in
-      let fewer = lower-up (λ v. stand s v isn't absent) (own s) mostTasks apart u t g (rw (ne-eqb (stand s u) absent (z .0))) (z .1) in
-      lt-ltb (howMany (outranks s u) mostTasks) (s .setup .processors) (omega (arith, ltb-true (howMany (outranks s t) mostTasks) (s .setup .processors) f, fewer));
+      let fewer = lower-up (λ v. stand s v isn't absent) (own s) mostTasks apart u t g
+      (rw (ne-eqb (stand s u) absent (z .0))) (z .1) in
+      lt-ltb (howMany (λ v. outranks s v u) mostTasks) (s .setup .processors)
+      (omega (arith, ltb-true (howMany (λ v. outranks s v t) mostTasks) (s .setup .processors) f, fewer));
   many = lowest-many (λ v. stand s v isn't absent) (own s) mostTasks apart (s .setup .processors);
 }
   where
-    apart : (i k : ℕ) → i < mostTasks → k < mostTasks → (stand s i isn't absent) ≡ true → (stand s k isn't absent) ≡ true → own s i ≡ own s k → i ≡ k
+    apart : (i k : ℕ) → i < mostTasks → k < mostTasks → (stand s i isn't absent) ≡ true
+        → (stand s k isn't absent) ≡ true → own s i ≡ own s k → i ≡ k
     apart i k h l _ _ e = own-apart s i k h l e
