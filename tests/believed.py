@@ -47,7 +47,7 @@ PARTS = {
         'setups': 'Accepted Groups Unread Numbers',
         'soundness': 'Parts',
         'protocol': 'Numbers Demands Cases Impostors',
-        'blocks': 'OneByte Numbers',
+        'blocks': 'CheckCases OneByte Numbers',
         'writer': 'RoundTrip Numbers',
         'scenario': 'Made',
         'lines': 'Values Numbers',

@@ -178,7 +178,8 @@ def stored():
 
 
 # What crates/timing calls: each of its calls, nothing, and a call no times.
-ORDERS = [(timing.STEPS, 1), (timing.TESTS, 1), (timing.CHECKS, 1), (b'n', 1), (timing.STEPS, 0)]
+ORDERS = [(timing.STEPS, 1), (timing.TESTS, 1), (timing.CHECKS, 1), (timing.VERDICTS, 1), (b'n', 1),
+          (timing.STEPS, 0)]
 
 
 def timed_blocks():
@@ -544,6 +545,21 @@ case('reader: a second sum of 0 is stored as 0', SECOND_IS_0, '#= processors 1 t
 case('reader: a second sum of 0 stored as 65,535 is wrong', SECOND_IS_0, '#= block 0 refused 31',
      faults=[spoil(0, CHECK_AT + 2, 255, 255)])
 
+# Words 257, 257, 63,746, 1,265 and 10 at places 1, 2, 4, 5 and 6: together 65,535; and 253 * 257 + 252 * 257 +
+# 250 * 63,746 + 249 * 1,265 + 248 * 10 = 250 * 65,535.
+case('reader: two sums of 0 are stored as 0', setup(1, [10], start=1265 * 65536 + 63746),
+     '#= processors 1 tasks 1 start 82966786', faults=[spoil(0, CHECK_AT, 0, 0, 0, 0)])
+
+# The largest sums there are, 254 * 65,535 and 127 * 255 * 65,535: both are 0 modulo 65,535, so the number is looked at.
+case('reader: all words 65,535 and a check of 0 give 32', ONE, '#= block 0 refused 32',
+     faults=[spoil(0, 0, *[255] * CHECK_AT, 0, 0, 0, 0)])
+case('reader: all words 65,535 and a check of 65,535 give 31', ONE, '#= block 0 refused 31',
+     faults=[spoil(0, 0, *[255] * BLOCK)])
+case('reader: all words 0 and a check of 0 give 33', ONE, '#= block 0 refused 33',
+     faults=[spoil(0, 0, *[0] * BLOCK)])
+case('reader: all words 0 and a check of 65,535 give 31', ONE, '#= block 0 refused 31',
+     faults=[spoil(0, 0, *[0] * CHECK_AT, 255, 255, 255, 255)])
+
 case('reader: number 1 in block 0', ONE, '#= block 0 refused 32', faults=[put(0, NUMBER, 1)])
 case('reader: number 256 in block 0', ONE, '#= block 0 refused 32', faults=[put(0, NUMBER, 0, 1)])
 case('reader: number 0 in block 1', ONE, PASSES + '#= block 1 refused 32',
@@ -563,6 +579,9 @@ case('reader: count 85 in block 1', ONE, PASSES + '#= block 1 refused 34',
      faults=[put(1, COUNT, 85)])
 case('reader: count 84 in block 1', ONE,
      '     pass @1  #= 0 -/-\n' + '     event 0 0 0 @0  #= 10 -/-\n' * 83)
+
+# The largest sums of a block that is accepted.
+case('reader: 84 records of the largest numbers', ONE, '     event 255 255 255 @65535  #= 10 -/-\n' * 84)
 
 for what, place in [
         ('the first period past the count', PERIODS + 4), ('the last period', PERIODS + 63),

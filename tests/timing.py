@@ -7,9 +7,9 @@ hundred times. The calls are about the file's last block, and the state before i
 from copy import deepcopy
 from itertools import cycle, islice
 
-from model import Session, events_in, setup_in, verdict
+from model import CHECK_AT, Session, check_of, events_in, setup_in, verdict
 
-STEPS, TESTS, CHECKS = b's', b't', b'c'
+STEPS, TESTS, CHECKS, VERDICTS = b's', b't', b'c', b'v'
 CALLS = 100
 
 
@@ -23,7 +23,7 @@ def expected(blocks, orders):
     for block in blocks[1:-1]:
         for event in events_in(block):
             session.event(*event)
-    told = {STEPS: steps, TESTS: tests, CHECKS: checks}
+    told = {STEPS: steps, TESTS: tests, CHECKS: checks, VERDICTS: verdicts}
     rows = [told.get(what, nothing)(session, blocks, CALLS * hundreds) for what, hundreds in orders]
     return ''.join(f'{row}\n' for row in rows)
 
@@ -49,8 +49,17 @@ def tests(begun, _blocks, calls):
     return sum(begun.clock < clock for clock in clocks)
 
 
+def in_turn(block, calls):
+    """The block, and in every second call with another first byte."""
+    spoilt = bytes([255 - block[0]]) + block[1:]
+    return ((block, spoilt)[n % 2] for n in range(calls))
+
+
 def checks(_session, blocks, calls):
-    """How often the last block is accepted: in every second call the last byte of its check is another."""
-    block, index = blocks[-1], len(blocks) - 1
-    spoilt = block[:-1] + bytes([255 - block[-1]])
-    return sum(verdict((block, spoilt)[n % 2], index) == 0 for n in range(calls))
+    """How often the check of the last block is right."""
+    return sum(check_of(block) == block[CHECK_AT:] for block in in_turn(blocks[-1], calls))
+
+
+def verdicts(_session, blocks, calls):
+    """How often the last block is accepted."""
+    return sum(verdict(block, len(blocks) - 1) == 0 for block in in_turn(blocks[-1], calls))

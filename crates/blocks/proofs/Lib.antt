@@ -1,4 +1,5 @@
 pub mod Limits
 pub mod Numbers
 pub mod OneByte
+mod PlainSums
 pub mod Sums

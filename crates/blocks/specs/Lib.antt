@@ -1,4 +1,5 @@
 pub mod Check
+pub mod CheckCases
 pub mod OneByte
 pub mod Sizes
 pub mod Verdicts

@@ -91,10 +91,14 @@ fn used_size(block: &[u8], first: bool) -> usize
     }
 }
 
-// The first refusal that applies, or 0. The rows go from the last to the first: see `numbers::row`.
+// The first refusal that applies, or 0. A block of another size is refused at once, so that all reading below is known
+// to be within the block. The other rows go from the last to the first: see `numbers::row`.
 fn refusal_of(block: &[u8], index: u64) -> u8
     ensures { λ r. ⌜ r ≡ firstOf (blockRows (now (block .entry)) index) ⌝ }
 {
+    if block.len() != Block::SIZE {
+        return Refusal::SIZE_WRONG;
+    }
     let is_first = index == 0;
     let kind = input::byte_at(block, Block::KIND_AT);
     let count = input::byte_at(block, Block::COUNT_AT);
@@ -111,8 +115,7 @@ fn refusal_of(block: &[u8], index: u64) -> u8
         misnumbered | (Block::LAST_INDEX < index),
         r33,
     );
-    let r31 = row(Refusal::CHECK_WRONG, !is_checked(block), r32);
-    row(Refusal::SIZE_WRONG, block.len() != Block::SIZE, r31)
+    row(Refusal::CHECK_WRONG, !is_checked(block), r32)
 }
 
 // The verdict on a block at an index.

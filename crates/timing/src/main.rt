@@ -13,13 +13,15 @@ ghost use lib.ListN.{length};
 ghost use mathlib.Core.Path.{_≡_};
 ghost use Rattle.blocks.specs.Sizes.{blockSize};
 
-// What is called, as an order says it: a step, a sound test, or a block's check. For any other byte nothing is
-// called.
+// What is called, as an order says it: a step, a sound test, a block's check, or the verdict on it. For any other byte
+// nothing is called.
 const STEPS: u8 = b's';
 
 const TESTS: u8 = b't';
 
 const CHECKS: u8 = b'c';
+
+const VERDICTS: u8 = b'v';
 
 // How many calls an order counts as one.
 const CALLS: u64 = 100;
@@ -102,16 +104,42 @@ fn make_tests(begun: State, calls: u64) -> u64 {
     passed
 }
 
-// Checks a block whose last byte, of the check, is wrong in every second call; returns how often it was accepted.
-fn make_checks(given: [u8; Block::SIZE], index: u64, calls: u64) -> u64 {
+// The byte as given, and another one in every second call.
+fn alternate(given: u8, call: u64) -> u8 {
+    if call % 2 == 0 { given } else { !given }
+}
+
+// Computes the check of a block; returns whether it is the one that the block has.
+fn is_checked(block: &[u8]) -> bool {
+    let check = blocks::check_of(block);
+    let first = input::word_of(
+        input::byte_at(block, Block::CHECK_AT),
+        input::byte_at(block, Block::CHECK_AT + 1),
+    );
+    let second = input::word_of(
+        input::byte_at(block, Block::CHECK_AT + 2),
+        input::byte_at(block, Block::CHECK_AT + 3),
+    );
+    (first as u32 == check.first) & (second as u32 == check.second)
+}
+
+// Checks a block whose first byte is another one in every second call; returns how often its check was right.
+fn make_checks(given: [u8; Block::SIZE], calls: u64) -> u64 {
+    let mut block = given;
+    let mut passed = 0;
+    for i in 0..calls {
+        block[0] = alternate(given[0], i);
+        passed = count_if(is_checked(&block), passed);
+    }
+    passed
+}
+
+// Judges such a block, at an index; returns how often it was accepted.
+fn make_verdicts(given: [u8; Block::SIZE], index: u64, calls: u64) -> u64 {
     let mut block = given;
     let mut accepted = 0;
     for i in 0..calls {
-        block[Block::SIZE - 1] = if i % 2 == 0 {
-            given[Block::SIZE - 1]
-        } else {
-            !given[Block::SIZE - 1]
-        };
+        block[0] = alternate(given[0], i);
         let number = blocks::number_of(blocks::judge_block(&block, index));
         accepted = count_if(number == 0, accepted);
     }
@@ -126,7 +154,8 @@ fn follow(what: u8, state: State, block: [u8; Block::SIZE], index: u64, calls: u
             make_steps(state, part, calls)
         }
         TESTS => make_tests(state, calls),
-        CHECKS => make_checks(block, index, calls),
+        CHECKS => make_checks(block, calls),
+        VERDICTS => make_verdicts(block, index, calls),
         _ => 0,
     }
 }

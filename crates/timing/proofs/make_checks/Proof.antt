@@ -1,3 +1,4 @@
+-- `make_checks` meets its contract: the block keeps its length. Assumes nothing.
 use borrow.Author.Needs.{needs}
 use mathlib.Core.Path.{_≡_}
 use Prim.Native.Nat.{_-_, _≤_}
@@ -7,40 +8,28 @@ use Rattle.timing.proofs.make_checks.Statement.{statement}
 use Rattle.timing.proofs.make_checks.Tie as tie
 
 abbrev Inv-loop : tie.InvT-loop
-Inv-loop index dequeues given block₀ accepted₀ i₀ block accepted i = (length block ≡ blockSize) × (i ≤ dequeues)
+Inv-loop calls given block₀ passed₀ i₀ block passed i = (length block ≡ blockSize) × (i ≤ calls)
 
 abbrev μ-loop : tie.MeasureT-loop
-μ-loop index dequeues given block₀ accepted₀ i₀ block accepted i = dequeues - i
+μ-loop calls given block₀ passed₀ i₀ block passed i = calls - i
 
 loop-holds : tie.Need-loop-holds Inv-loop μ-loop
 loop-holds c = search needs
 
-sub-block : tie.Need-sub-block Inv-loop μ-loop
-sub-block c = search needs
+array-read-alternate : tie.Need-array-read-alternate Inv-loop μ-loop
+array-read-alternate c = search needs
 
-array-read-block : tie.Need-array-read-block Inv-loop μ-loop
-array-read-block c = search needs
-
-sub-block-2 : tie.Need-sub-block-2 Inv-loop μ-loop
-sub-block-2 c = search needs
-
-array-read-block-2 : tie.Need-array-read-block-2 Inv-loop μ-loop
-array-read-block-2 c = search needs
-
-sub-block-3 : tie.Need-sub-block-3 Inv-loop μ-loop
-sub-block-3 c = search needs
+alternate-requires : tie.Need-alternate-requires Inv-loop μ-loop
+alternate-requires c κs = search needs
 
 array-write-block : tie.Need-array-write-block Inv-loop μ-loop
 array-write-block c = search needs
 
-slice-aggregate-judge-block : tie.Need-slice-aggregate-judge-block Inv-loop μ-loop
-slice-aggregate-judge-block c = search needs
+slice-aggregate-is-checked : tie.Need-slice-aggregate-is-checked Inv-loop μ-loop
+slice-aggregate-is-checked c = search needs
 
-judge-block-requires : tie.Need-judge-block-requires Inv-loop μ-loop
-judge-block-requires c κs = search needs
-
-number-of-requires : tie.Need-number-of-requires Inv-loop μ-loop
-number-of-requires c κs = search needs
+is-checked-requires : tie.Need-is-checked-requires Inv-loop μ-loop
+is-checked-requires c κs = search needs
 
 count-if-requires : tie.Need-count-if-requires Inv-loop μ-loop
 count-if-requires c κs = search needs
@@ -64,15 +53,11 @@ make-checks-spec =
     Inv-loop
     μ-loop
     loop-holds
-    sub-block
-    array-read-block
-    sub-block-2
-    array-read-block-2
-    sub-block-3
+    array-read-alternate
+    alternate-requires
     array-write-block
-    slice-aggregate-judge-block
-    judge-block-requires
-    number-of-requires
+    slice-aggregate-is-checked
+    is-checked-requires
     count-if-requires
     add-i
     loop-less

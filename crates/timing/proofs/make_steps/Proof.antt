@@ -4,10 +4,10 @@ use Rattle.timing.proofs.make_steps.Statement.{statement}
 use Rattle.timing.proofs.make_steps.Tie as tie
 
 abbrev Inv-loop : tie.InvT-loop
-Inv-loop begun part dequeues events state₀ at₀ accepted₀ counter₀ state at accepted counter = counter ≤ dequeues
+Inv-loop begun part calls events state₀ at₀ accepted₀ counter₀ state at accepted counter = counter ≤ calls
 
 abbrev μ-loop : tie.MeasureT-loop
-μ-loop begun part dequeues events state₀ at₀ accepted₀ counter₀ state at accepted counter = dequeues - counter
+μ-loop begun part calls events state₀ at₀ accepted₀ counter₀ state at accepted counter = calls - counter
 
 event-count-requires : tie.Need-event-count-requires Inv-loop μ-loop
 event-count-requires c κs = search needs

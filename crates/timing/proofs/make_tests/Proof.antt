@@ -4,10 +4,10 @@ use Rattle.timing.proofs.make_tests.Statement.{statement}
 use Rattle.timing.proofs.make_tests.Tie as tie
 
 abbrev Inv-loop : tie.InvT-loop
-Inv-loop dequeues state₀ passed₀ counter₀ state passed counter = counter ≤ dequeues
+Inv-loop calls state₀ passed₀ counter₀ state passed counter = counter ≤ calls
 
 abbrev μ-loop : tie.MeasureT-loop
-μ-loop dequeues state₀ passed₀ counter₀ state passed counter = dequeues - counter
+μ-loop calls state₀ passed₀ counter₀ state passed counter = calls - counter
 
 loop-holds : tie.Need-loop-holds Inv-loop μ-loop
 loop-holds c = search needs

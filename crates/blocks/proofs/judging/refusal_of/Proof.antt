@@ -1,8 +1,13 @@
--- `refusal_of` meets its contract. Assumes nothing.
+-- `refusal_of` meets its contract: where the size is right, row 30 does not apply. Assumes nothing.
 use borrow.Author.Needs.{needs}
+use borrow.Author.Tests.{eq-eqb, ne-eqb}
 use Rattle.blocks.specs.Verdicts.{blockRows}
 use Rattle.blocks.proofs.judging.refusal_of.Statement.{statement}
 use Rattle.blocks.proofs.judging.refusal_of.Tie as tie
+
+returns : tie.Need-returns
+unfolding blockRows
+returns c = rw (ne-eqb _ _ (c .if1 .taken))
 
 byte-at-requires : tie.Need-byte-at-requires
 byte-at-requires c κs = search needs
@@ -43,17 +48,29 @@ is-checked-requires c κs = search needs
 row-requires-5 : tie.Need-row-requires-5
 row-requires-5 c κs = search needs
 
-row-requires-6 : tie.Need-row-requires-6
-row-requires-6 c κs = search needs
-
-returns : tie.Need-returns
+returns-2 : tie.Need-returns-2
 unfolding blockRows
-returns c = cc
+returns-2 c = rw (
+  eq-eqb _ _ (c .before .before .before .before .before .before .before .before .before .before .before .before .if1 .left),
+  c .row5 .ensures,
+  c .before .is-checked .ensures,
+  c .before .before .row4 .ensures,
+  c .before .before .before .row3 .ensures,
+  c .before .before .before .before .kind-for .ensures,
+  c .before .before .before .before .before .row2 .ensures,
+  c .before .before .before .before .before .before .most-for .ensures,
+  c .before .before .before .before .before .before .before .row .ensures,
+  c .before .before .before .before .before .before .before .before .is-filled .ensures,
+  c .before .before .before .before .before .before .before .before .before .word-at .ensures,
+  c .before .before .before .before .before .before .before .before .before .before .byte-at2 .ensures,
+  c .before .before .before .before .before .before .before .before .before .before .before .byte-at .ensures,
+)
 
 pub refusal-of-spec : {M : Type 1} → statement M
 refusal-of-spec =
     tie.close
     (tie.spec
+    returns
     byte-at-requires
     byte-at-requires-2
     word-at-requires
@@ -67,5 +84,4 @@ refusal-of-spec =
     row-requires-4
     is-checked-requires
     row-requires-5
-    row-requires-6
-    returns)
+    returns-2)
