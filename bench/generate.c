@@ -516,14 +516,13 @@ static void change_payload(uint8_t *block)
     write_check(block);
 }
 
-/* A block of zeros, and the other number that stands for 0 modulo 65,535 in its check. */
+/* A block whose sums are 0: none, half or all of its words are 65,535, which stands for 0 modulo 65,535, and the others
+   are 0. In its check both numbers come, and only 0 is right. */
 static void break_to_zeros(uint8_t *block)
 {
-    memset(block, 0, BLOCK_BYTES);
-    if (chance(50))
-        memset(block + CHECK_PLACE, 255, 2);
-    if (chance(50))
-        memset(block + CHECK_PLACE + 2, 255, 2);
+    unsigned largest = 50 * below(3);
+    for (unsigned place = 0; place < BLOCK_BYTES; place += 2)
+        memset(block + place, chance(place < CHECK_PLACE ? largest : 50) ? 255 : 0, 2);
 }
 
 static void break_length(struct file *file)
