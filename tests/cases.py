@@ -1,5 +1,5 @@
 #!/usr/bin/env python3
-"""The edge cases of document 01 and of ticket 2, with what is expected of each.
+"""The edge cases of document 01 and of tickets 2 and 3, with what is expected of each.
 
     python3 tests/cases.py list     number and title of each case
     python3 tests/cases.py write    write the programs' inputs and outputs

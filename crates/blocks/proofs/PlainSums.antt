@@ -71,3 +71,8 @@ pub plain-sums-rest : (block : List ℕ) (n : ℕ)
 unfolding plainSums sums
 plain-sums-rest block zero = (refl, refl)
 plain-sums-rest block (suc n) = let before = plain-sums-rest block n in (omega arith, omega arith)
+
+-- a check is known by its sums
+pub check-by : (c : Check) (first second : ℕ) → first ≡ c .first → second ≡ c .second
+    → record { first = first; second = second } ≡ c
+check-by c first second p q = rw (p, q)

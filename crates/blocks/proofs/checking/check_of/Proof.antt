@@ -6,7 +6,7 @@ use native.Mathlib.Omega.{arith}
 use native.Mathlib.Numerals.{add-one}
 use borrow.Author.Needs.{needs}
 use Rattle.blocks.specs.Check.{words}
-use Rattle.blocks.proofs.PlainSums.{AreWords, plainSums, words-more, next-fits, plain-sums-rest}
+use Rattle.blocks.proofs.PlainSums.{AreWords, plainSums, words-more, next-fits, plain-sums-rest, check-by}
 use Rattle.blocks.proofs.checking.check_of.Statement.{statement}
 use Rattle.blocks.proofs.checking.check_of.Tie as tie
 
@@ -58,8 +58,10 @@ loop-again c =
 returns : tie.Need-returns Inv-loop μ-loop
 returns c =
     let e : c .before .loop .i ≡ words = omega arith in
+    let first = rw e at (c .before .loop .inv .2) in
+    let second = rw e at (c .before .loop .inv .3) in
     let rest = plain-sums-rest (c .before .before .before .args .block .now) words in
-    rw (c .before .loop .inv .2, c .before .loop .inv .3, e, rest .0, rest .1)
+    check-by _ _ _ (omega arith) (omega arith)
 
 pub check-of-spec : {M : Type 1} → statement M
 check-of-spec =
