@@ -109,27 +109,17 @@ fn alternate(given: u8, call: u64) -> u8 {
     if call % 2 == 0 { given } else { !given }
 }
 
-// Computes the check of a block; returns whether it is the one that the block has.
-fn is_checked(block: &[u8]) -> bool {
-    let check = blocks::check_of(block);
-    let first = input::word_of(
-        input::byte_at(block, Block::CHECK_AT),
-        input::byte_at(block, Block::CHECK_AT + 1),
-    );
-    let second = input::word_of(
-        input::byte_at(block, Block::CHECK_AT + 2),
-        input::byte_at(block, Block::CHECK_AT + 3),
-    );
-    (first as u32 == check.first) & (second as u32 == check.second)
-}
-
-// Checks a block whose first byte is another one in every second call; returns how often its check was right.
+// Computes the check of a block whose first byte is another one in every second call; returns how often it was the
+// given block's.
 fn make_checks(given: [u8; Block::SIZE], calls: u64) -> u64 {
+    let own = blocks::check_of(&given);
     let mut block = given;
     let mut passed = 0;
     for i in 0..calls {
         block[0] = alternate(given[0], i);
-        passed = count_if(is_checked(&block), passed);
+        let check = blocks::check_of(&block);
+        let same = (check.first == own.first) & (check.second == own.second);
+        passed = count_if(same, passed);
     }
     passed
 }

@@ -8,10 +8,16 @@ use Rattle.timing.proofs.make_checks.Statement.{statement}
 use Rattle.timing.proofs.make_checks.Tie as tie
 
 abbrev Inv-loop : tie.InvT-loop
-Inv-loop calls given block₀ passed₀ i₀ block passed i = (length block ≡ blockSize) × (i ≤ calls)
+Inv-loop calls given own block₀ passed₀ i₀ block passed i = (length block ≡ blockSize) × (i ≤ calls)
 
 abbrev μ-loop : tie.MeasureT-loop
-μ-loop calls given block₀ passed₀ i₀ block passed i = calls - i
+μ-loop calls given own block₀ passed₀ i₀ block passed i = calls - i
+
+slice-aggregate-check-of : tie.Need-slice-aggregate-check-of Inv-loop μ-loop
+slice-aggregate-check-of c = search needs
+
+check-of-requires : tie.Need-check-of-requires Inv-loop μ-loop
+check-of-requires c κs = search needs
 
 loop-holds : tie.Need-loop-holds Inv-loop μ-loop
 loop-holds c = search needs
@@ -25,11 +31,11 @@ alternate-requires c κs = search needs
 array-write-block : tie.Need-array-write-block Inv-loop μ-loop
 array-write-block c = search needs
 
-slice-aggregate-is-checked : tie.Need-slice-aggregate-is-checked Inv-loop μ-loop
-slice-aggregate-is-checked c = search needs
+slice-aggregate-check-of-2 : tie.Need-slice-aggregate-check-of-2 Inv-loop μ-loop
+slice-aggregate-check-of-2 c = search needs
 
-is-checked-requires : tie.Need-is-checked-requires Inv-loop μ-loop
-is-checked-requires c κs = search needs
+check-of-requires-2 : tie.Need-check-of-requires-2 Inv-loop μ-loop
+check-of-requires-2 c κs = search needs
 
 count-if-requires : tie.Need-count-if-requires Inv-loop μ-loop
 count-if-requires c κs = search needs
@@ -52,12 +58,14 @@ make-checks-spec =
     (tie.spec
     Inv-loop
     μ-loop
+    slice-aggregate-check-of
+    check-of-requires
     loop-holds
     array-read-alternate
     alternate-requires
     array-write-block
-    slice-aggregate-is-checked
-    is-checked-requires
+    slice-aggregate-check-of-2
+    check-of-requires-2
     count-if-requires
     add-i
     loop-less
