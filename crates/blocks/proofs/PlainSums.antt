@@ -23,7 +23,7 @@ abbrev pub AreWords : List ℕ → ℕ → Type 0
 AreWords block n = (i : ℕ) → i < n → word block (2 * i) ≤ mostWord
 
 -- one word more: the first sum adds the word, the second adds the new first
-abbrev pub plainAdding : Check → ℕ → Check
+abbrev plainAdding : Check → ℕ → Check
 plainAdding c w = record { first = c .first + w; second = c .second + (c .first + w) }
 
 -- the plain sums over the first n words
@@ -48,7 +48,7 @@ plain-sums-fit block n small all =
     let bounds = plain-sums-bounds block n small all in
     (omega arith, omega arith)
 
--- the largest there are: every word is 65,535
+-- what they are where every word is 65,535, the largest
 pub plain-sums-largest : plainSums (replicate checkAt 255) words ≡ record { first = 16645890; second = 2122350975 }
 unfolding plainSums
 plain-sums-largest = refl
