@@ -278,8 +278,10 @@ static void draw_nesting(const struct state *state, unsigned task, struct event 
 /* An event that is not an accepted one, or by chance one. */
 static struct event draw_doubtful(const struct state *state, const struct style *style)
 {
+    const struct standing *standing = &state->standing;
     struct event event = draw_fitting(state, style);
-    uint32_t active = state->standing.running & ~state->standing.spinning;
+    uint32_t active = standing->running & ~standing->spinning;
+    uint32_t idle = standing->pending & ~standing->suspended & ~standing->running;
     switch (below(12)) {
     case 0:
         event.kind = chance(50) ? 0 : between(PASS + 1, 255);
@@ -303,8 +305,16 @@ static struct event draw_doubtful(const struct state *state, const struct style 
             draw_nesting(state, member(active), &event);
         break;
     case 8:
-        if (state->standing.spinning != 0)
-            event.task = member(state->standing.spinning);
+        if (standing->spinning != 0)
+            event.task = member(standing->spinning);
+        break;
+    case 9:
+        if (standing->suspended != 0)
+            event.task = member(standing->suspended);
+        break;
+    case 10:
+        if (idle != 0)
+            event.task = member(idle);
         break;
     default:
         break;

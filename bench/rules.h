@@ -37,6 +37,7 @@ enum answer {
     ALREADY_PENDING = 16,
     TOO_EARLY = 17,
     NOT_PENDING = 18,
+    JOB_SUSPENDED = 26, /* judged in 19's place */
     ON_NO_PROCESSOR = 19,
     JOB_SPINNING = 20,
     REQUEST_OPEN = 21,
@@ -45,6 +46,7 @@ enum answer {
     EIGHT_OPEN = 24,
     NOT_NEWEST = 25
 };
+enum { ANSWERS = JOB_SUSPENDED + 1 };
 
 /* The six tick totals in printed order: running, spinning, linked but not running, ready, direct blocking,
    suspended otherwise. ABSENT is where a task without a pending job stands. */
@@ -124,7 +126,7 @@ enum answer judge_setup(const struct setup *setup);
 /* The state at the start of an accepted set-up. */
 void begin(struct state *state, const struct setup *setup);
 
-/* 0 or the refusal 10 to 25 that an event would be given. Changes nothing. */
+/* 0 or the refusal 10 to 26 that an event would be given. Changes nothing. */
 enum answer judge_event(const struct state *state, const struct event *event);
 
 /* Judges the event and, where it is accepted, takes the step. */

@@ -8,7 +8,7 @@ static uint32_t totals[TASKS_LIMIT][TOTALS];
 static uint32_t pending_ticks[TASKS_LIMIT];
 
 /* What occurred: answers by number, and events after which the named thing stood. */
-static unsigned long answers[NOT_NEWEST + 1];
+static unsigned long answers[ANSWERS];
 static unsigned long spinning, suspended, inheriting, queued_two, displaced, linked_waiting, nested;
 static unsigned long direct_blocking, suspended_otherwise;
 
@@ -188,7 +188,7 @@ void self_check_state(const struct state *state, enum answer answer)
 
 void self_check_report(void)
 {
-    for (unsigned i = 0; i <= NOT_NEWEST; i++)
+    for (unsigned i = 0; i < ANSWERS; i++)
         if (answers[i] != 0)
             fprintf(stderr, "answer-%u %lu\n", i, answers[i]);
     fprintf(stderr, "spinning %lu\nsuspended %lu\ninheriting %lu\n", spinning, suspended, inheriting);

@@ -295,7 +295,7 @@ case('P1 to P8: the printed case',
      complete 1 0  @9
      finish 1      @9
      finish 2      @12
-     ''', told={slips.PreemptsRunning: 4})
+     ''', told={slips.PreemptsRunning: 4, slips.TellsAllSuspended: 7})
 
 case('P9: a finish moves the link of the job linked to q, after step 4 of the printed case',
      setup(2, [100, 200, 50], 'short', start=65530), '''
@@ -752,19 +752,133 @@ case('19: a linked job that does not run is on no processor',
      finish 1      @2  #= 19 1/0
      request 1 0   @2  #= 19 1/0
      complete 1 0  @2  #= 19 1/0
-     ''')
+     ''', told={slips.TellsAllSuspended: 4})
 
-case('19: a suspended job is on no processor',
-     setup(2, [200, 100], 'long'), '''
+case('19: a job that resumed below every link, and 26 until it resumed',
+     setup(2, [100, 200, 150], 'long'), '''
+     arrive 0      @0   #= 0 0/0 -/-
+     request 0 0   @0   #= 0 0/0 -/-
+     arrive 1      @1   #= 0 0/0 1/1
+     request 1 0   @2   #= 0 0/0 -/-
+     finish 1      @3   #= 26 0/0 -/-
+     arrive 2      @4   #= 0 0/0 2/2
+     finish 1      @5   #= 26 0/0 2/2
+     complete 0 0  @6   #= 0 0/0 2/2   # 1 holds, below 0 and 2
+     finish 1      @7   #= 19 0/0 2/2
+     request 1 0   @7   #= 19 0/0 2/2
+     complete 1 0  @7   #= 19 0/0 2/2
+     finish 2      @8   #= 0 0/0 1/1
+     finish 1      @9   #= 21 0/0 1/1
+     complete 1 0  @10  #= 0 0/0 1/1
+     finish 1      @11  #= 0 0/0 -/-
+     #= task 1 4 0 0 2 2 2
+     ''', told={slips.TellsNoneApart: 5, slips.TellsAllSuspended: 9, slips.TellsSuspendedUntilRun: 9})
+
+case('19: a job that resumed linked, behind a non-preemptable one, and 26 until it resumed',
+     setup(2, [200, 100, 300], 'long short'), '''
      arrive 0      @0  #= 0 0/0 -/-
      request 0 0   @0  #= 0 0/0 -/-
-     arrive 1      @1  #= 0 0/0 1/1
+     arrive 1      @0  #= 0 0/0 1/1
      request 1 0   @1  #= 0 0/0 -/-
-     finish 1      @2  #= 19 0/0 -/-
-     request 1 0   @2  #= 19 0/0 -/-
-     complete 1 0  @2  #= 19 0/0 -/-
-     arrive 1      @2  #= 16 0/0 -/-
-     ''')
+     arrive 2      @2  #= 0 0/0 2/2
+     request 2 1   @2  #= 0 0/0 2/2
+     finish 1      @3  #= 26 0/0 2/2
+     complete 0 0  @3  #= 0 0/0 1/2   # 1 takes the link of 2, which holds a short
+     finish 1      @4  #= 19 0/0 1/2
+     complete 1 0  @4  #= 19 0/0 1/2
+     complete 2 1  @5  #= 0 0/0 1/1
+     complete 1 0  @6  #= 0 0/0 1/1
+     ''', told={slips.TellsNoneApart: 7, slips.TellsAllSuspended: 9, slips.TellsSuspendedUntilRun: 9})
+
+# A suspended job has nothing open, so of 21 to 25 only 25 could apply to it. It asked for a resource, but that is not
+# open: 22 is not in question.
+case('26: a suspended job, before 25; its arrival is still 16',
+     setup(2, [200, 100], 'long'), '''
+     arrive 0      @0    #= 0 0/0 -/-
+     request 0 0   @0    #= 0 0/0 -/-
+     arrive 1      @1    #= 0 0/0 1/1
+     request 1 0   @1    #= 0 0/0 -/-
+     finish 1      @2    #= 26 0/0 -/-
+     request 1 0   @2    #= 26 0/0 -/-
+     complete 1 0  @2    #= 26 0/0 -/-
+     arrive 1      @2    #= 16 0/0 -/-
+     arrive 1      @101  #= 16 0/0 -/-   # a period later, too
+     ''', told={slips.TellsNoneApart: 5, slips.TellsSuspendedLast: 7, slips.TellsSuspendedFirst: 8})
+
+case('26: after 10 to 15, up to the last tick',
+     setup(2, [200, 100], 'long', start=4294967285), '''
+     arrive 0       @65525  #= 0 0/0 -/-
+     request 0 0    @65525  #= 0 0/0 -/-
+     arrive 1       @65526  #= 0 0/0 1/1
+     request 1 0    @65527  #= 0 0/0 -/-
+     event 6 1 0    @65528  #= 10 0/0 -/-
+     finish 2       @65528  #= 11 0/0 -/-
+     request 1 1    @65528  #= 12 0/0 -/-
+     event 2 1 1    @65528  #= 13 0/0 -/-
+     finish 1       @65526  #= 14 0/0 -/-
+     finish 1       @0      #= 15 0/0 -/-
+     finish 1       @65535  #= 26 0/0 -/-
+     pass           @65535  #= 0 0/0 -/-
+     finish 1       @65535  #= 26 0/0 -/-
+     ''', told={slips.TellsSuspendedBeforeTime: 9})
+
+case('26: a job that waits for a holder that itself spins',
+     setup(3, [300, 200, 100], 'long short'), '''
+     arrive 0      @0   #= 0 0/0 -/- -/-
+     arrive 1      @1   #= 0 0/0 1/1 -/-
+     arrive 2      @2   #= 0 0/0 1/1 2/2
+     request 1 0   @3   #= 0 0/0 1/1 2/2
+     request 2 1   @4   #= 0 0/0 1/1 2/2
+     request 0 0   @5   #= 0 -/- 1/1 2/2
+     request 1 1   @6   #= 0 -/- 1/1 2/2
+     finish 0      @7   #= 26 -/- 1/1 2/2
+     request 0 1   @7   #= 26 -/- 1/1 2/2
+     complete 0 0  @7   #= 26 -/- 1/1 2/2
+     finish 1      @7   #= 20 -/- 1/1 2/2
+     complete 2 1  @8   #= 0 -/- 1/1 2/2
+     finish 0      @8   #= 26 -/- 1/1 2/2
+     complete 1 1  @9   #= 0 -/- 1/1 2/2
+     finish 0      @9   #= 26 -/- 1/1 2/2
+     complete 1 0  @10  #= 0 0/0 1/1 2/2
+     finish 0      @10  #= 21 0/0 1/1 2/2
+     ''', told={slips.TellsNoneApart: 8, slips.TellsSuspendedLast: 10})
+
+case('26 and 19 beside each other, on one processor',
+     setup(1, [300, 100, 200], 'long'), '''
+     arrive 0     @0   #= 0 0/0
+     request 0 0  @0   #= 0 0/0
+     arrive 1     @10  #= 0 1/1
+     request 1 0  @10  #= 0 0/0
+     arrive 2     @20  #= 0 0/0
+     finish 0     @21  #= 21 0/0   # runs, and holds
+     finish 1     @21  #= 26 0/0   # sleeps on the lock
+     finish 2     @21  #= 19 0/0   # could run, and has no processor
+     ''', told={slips.TellsNoneApart: 7, slips.TellsAllSuspended: 8})
+
+case('26: each job of a long queue until its turn, in later blocks too',
+     setup(4, [400, 300, 200, 100], 'long'), '''
+     arrive 0      @0  #= 0 0/0 -/- -/- -/-
+     request 0 0   @0  #= 0 0/0 -/- -/- -/-
+     arrive 1      @1  #= 0 0/0 1/1 -/- -/-
+     request 1 0   @1  #= 0 0/0 -/- -/- -/-
+     arrive 2      @2  #= 0 0/0 2/2 -/- -/-
+     request 2 0   @2  #= 0 0/0 -/- -/- -/-
+     arrive 3      @3  #= 0 0/0 3/3 -/- -/-
+     request 3 0   @3  #= 0 0/0 -/- -/- -/-
+     block
+     finish 1      @4  #= 26 0/0 -/- -/- -/-
+     finish 2      @4  #= 26 0/0 -/- -/- -/-
+     finish 3      @4  #= 26 0/0 -/- -/- -/-
+     complete 0 0  @5  #= 0 0/0 1/1 -/- -/-
+     block
+     finish 1      @5  #= 21 0/0 1/1 -/- -/-
+     finish 2      @5  #= 26 0/0 1/1 -/- -/-
+     finish 3      @5  #= 26 0/0 1/1 -/- -/-
+     complete 1 0  @6  #= 0 0/0 1/1 2/2 -/-
+     finish 3      @6  #= 26 0/0 1/1 2/2 -/-
+     complete 2 0  @7  #= 0 0/0 1/1 2/2 3/3
+     finish 3      @7  #= 21 0/0 1/1 2/2 3/3
+     ''', told={slips.TellsNoneApart: 9})
 
 case('20: a spinning job, before 21, 22 and 25',
      setup(2, [200, 100], 'long short'), '''
@@ -1510,7 +1624,7 @@ case('direct blocking: refused events in mid-wait charge nothing',
      request 0 0   @0   #= 0 0/0
      arrive 1      @0   #= 0 1/1
      request 1 0   @0   #= 0 0/0
-     finish 1      @3   #= 19 0/0
+     finish 1      @3   #= 26 0/0
      arrive 2      @5   #= 0 2/2
      arrive 2      @7   #= 16 2/2
      pass          @4   #= 14 2/2

@@ -251,10 +251,10 @@ class Session(Scheduler):
             self.tasks[t].totals[self.total_of(t)] += ticks
             self.tasks[t].ticks_pending += ticks
 
-    # ---- refusals 10 to 25 ----
+    # ---- refusals 10 to 26 ----
 
     def refusal(self, kind, t, resource, tick):
-        """0, or the first of 10 to 25 that applies."""
+        """0, or the first of 10 to 26 that applies, in the list's order."""
         if kind not in USES:
             return 10
         uses_task, uses_resource = USES[kind]
@@ -286,10 +286,15 @@ class Session(Scheduler):
         task = self.tasks[t]
         if not task.pending():
             return 18
+        if task.standing == SUSPENDED:      # ticket 4: in 19's place
+            return 26
         if t not in self.running:
             return 19
         if task.standing == SPINS:
             return 20
+        return self.lock_refusal(kind, task, resource)
+
+    def lock_refusal(self, kind, task, resource):
         if kind == FINISH:
             return 21 if task.open else 0
         if kind == REQUEST:

@@ -4,7 +4,7 @@ A case that names a slip says at which event, or at which task's totals, the sli
 line first differs from the rule's, so that the case is known to tell the two apart.
 """
 
-from model import DIRECT_BLOCKING, SUSPENDED, SUSPENDED_OTHERWISE, Session
+from model import ARRIVE, DIRECT_BLOCKING, PASS, SUSPENDED, SUSPENDED_OTHERWISE, Session
 
 
 def signed(value, bits):
@@ -191,3 +191,65 @@ class RanksAfter(Slip):
             after = DIRECT_BLOCKING if self.one_of_the_m_highest(job) else SUSPENDED_OTHERWISE
             self.tasks[job].totals[after] += ticks
         return answer
+
+
+# ---- why a job is not on a processor ----
+
+class TellsNoneApart(Slip):
+    """Answers 19 for a suspended job as well."""
+
+    def job_refusal(self, kind, t, resource):
+        answer = super().job_refusal(kind, t, resource)
+        return 19 if answer == 26 else answer
+
+
+class TellsAllSuspended(Slip):
+    """Answers 26 for every job on no processor."""
+
+    def job_refusal(self, kind, t, resource):
+        answer = super().job_refusal(kind, t, resource)
+        return 26 if answer == 19 else answer
+
+
+class TellsSuspendedLast(Slip):
+    """Judges 26 where its number stands, after 21 to 25."""
+
+    def job_refusal(self, kind, t, resource):
+        task = self.tasks[t]
+        if task.standing != SUSPENDED:
+            return super().job_refusal(kind, t, resource)
+        return self.lock_refusal(kind, task, resource) or 26
+
+
+class TellsSuspendedFirst(Slip):
+    """Judges 26 before 16, so that the arrival of a suspended job gets it too."""
+
+    def arrival_refusal(self, task, now):
+        return 26 if task.standing == SUSPENDED else super().arrival_refusal(task, now)
+
+
+class TellsSuspendedBeforeTime(Slip):
+    """Judges 26 before 14 and 15."""
+
+    def refusal(self, kind, t, resource, tick):
+        answer = super().refusal(kind, t, resource, tick)
+        if answer in (14, 15) and kind not in (ARRIVE, PASS) and self.tasks[t].standing == SUSPENDED:
+            return 26
+        return answer
+
+
+class TellsSuspendedUntilRun(Slip):
+    """Takes a job that suspended for suspended until it runs again."""
+
+    def __init__(self, setup):
+        super().__init__(setup)
+        self.asleep = set()
+
+    def job_refusal(self, kind, t, resource):
+        self.asleep -= set(self.running)
+        answer = super().job_refusal(kind, t, resource)
+        return 26 if answer == 19 and t in self.asleep else answer
+
+    def wait_suspended(self, t, resource):
+        super().wait_suspended(t, resource)
+        self.asleep.add(t)

@@ -8,7 +8,7 @@ ghost use mathlib.Core.Path.{_≡_};
 ghost use Rattle.protocol.specs.Refusals.{judge as judgeRule};
 ghost use Rattle.protocol.specs.Events.{step as stepRule};
 
-// The first of 9 to 25 that applies, or 0.
+// The first of 9 to 26 that applies, or 0.
 pub fn judge_event(state: State, e: Event) -> u8
     ensures { λ r. ⌜ r ≡ judgeRule state e ⌝ }
 {

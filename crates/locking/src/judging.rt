@@ -1,4 +1,4 @@
-// The refusals 9 to 25 of an event.
+// The refusals 9 to 26 of an event.
 use crate::clock::clock_after;
 use crate::clock::step_to;
 use input::Event;
@@ -6,7 +6,6 @@ use input::Setup;
 use numbers::Refusal;
 use numbers::row;
 use processors::Processors;
-use protocol::Situation;
 use protocol::Task;
 ghost use mathlib.Core.Path.{_≡_};
 ghost use mathlib.Core.Bool.{true};
@@ -17,7 +16,6 @@ ghost use Rattle.search.specs.Words.{_is_};
 ghost use Rattle.search.specs.Below.{anyBelow};
 ghost use Rattle.numbers.specs.Rows.{_when_, _otherwise_, firstOf};
 ghost use Rattle.numbers.specs.Limits.{mostRequests, nothing};
-ghost use Rattle.protocol.specs.Situations.{situationRefusal};
 ghost use Rattle.protocol.specs.Refusals.{fieldRows, judge};
 ghost use Rattle.protocol.specs.declared.State.{State};
 ghost use Rattle.locking.specs.Steps.{isApart, HasParts};
@@ -27,20 +25,6 @@ const BACKWARD: u16 = 32768;
 
 // The end of the exact clock.
 const LAST_CLOCK: u64 = 4294967295;
-
-// The refusal of a finish, request or completion in a situation, 18 to 20, or 0.
-pub fn situation_refusal(situation: Situation) -> u8
-    ensures { λ r. ⌜ r ≡ situationRefusal situation ⌝ }
-{
-    match situation {
-        Situation::NoJob => Refusal::NOT_PENDING,
-        Situation::Running => 0,
-        Situation::Spinning => Refusal::IS_SPINNING,
-        Situation::LinkedOnly => Refusal::ON_NO_PROCESSOR,
-        Situation::Ready => Refusal::ON_NO_PROCESSOR,
-        Situation::Suspended => Refusal::ON_NO_PROCESSOR,
-    }
-}
 
 // A request for `r` is open.
 fn is_open(requests: [u8; Task::REQUESTS], depth: usize, r: u8) -> bool
@@ -106,7 +90,7 @@ fn field_rows(tasks: usize, resources: usize, e: Event, later: u8) -> u8
     row(Refusal::EVENT_UNKNOWN, !is_kind, r11)
 }
 
-// The first of 10 to 25 that applies, or 0, for a sound state, from what an event depends on. The rows go from the
+// The first of 10 to 26 that applies, or 0, for a sound state, from what an event depends on. The rows go from the
 // last to the first: see `numbers::row`.
 fn judge_sound(
     setup: Setup,
@@ -125,7 +109,7 @@ fn judge_sound(
     let requests = task.requests;
     let depth = task.depth;
     let stand = states::stand_of(standing);
-    let refusal = situation_refusal(states::situation_of(stand, p, e.task));
+    let refusal = states::situation_refusal(states::situation_of(stand, p, e.task));
     let now = clock_after(clock, e.tick);
     let earliest = (task.last as u64) + (states::period_at(periods, e.task) as u64);
     let comes = e.kind == Event::ARRIVAL;
@@ -142,12 +126,8 @@ fn judge_sound(
     let is_open = is_open(requests, depth, e.resource);
     let r22 = row(Refusal::ALREADY_OPEN, asks & is_open, r23);
     let r21 = row(Refusal::FINISHES_OPEN, ends & (depth != 0), r22);
-    let spins = refusal == Refusal::IS_SPINNING;
-    let r20 = row(Refusal::IS_SPINNING, acts & spins, r21);
-    let is_off = refusal == Refusal::ON_NO_PROCESSOR;
-    let r19 = row(Refusal::ON_NO_PROCESSOR, acts & is_off, r20);
-    let has_none = refusal == Refusal::NOT_PENDING;
-    let r18 = row(Refusal::NOT_PENDING, acts & has_none, r19);
+    // 18, 26, 19 and 20: a situation gives one of them at most.
+    let r18 = row(refusal, acts & (refusal != 0), r21);
     let comes_again = comes & task.arrived;
     let r17 = row(Refusal::ARRIVES_EARLY, comes_again & (now < earliest), r18);
     let is_pending = stand != Task::ABSENT;
@@ -158,7 +138,7 @@ fn judge_sound(
     field_rows(setup.tasks, setup.resources, e, r14)
 }
 
-// The first of 9 to 25 that applies, or 0, from what an event depends on: the set-up, the clock, the record of the
+// The first of 9 to 26 that applies, or 0, from what an event depends on: the set-up, the clock, the record of the
 // event's task and the processors. `naming` has the name of each resource's group, and `sound` says whether the state
 // is sound; if it is not, nothing else is read.
 pub fn judge_parts(

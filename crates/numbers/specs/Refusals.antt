@@ -63,7 +63,11 @@ arrivesEarly = 17
 abbrev pub notPending : ℕ
 notPending = 18
 
--- kinds 2 to 4: the job is on no processor
+-- kinds 2 to 4: the job is suspended; judged in 19's place, and so before it
+abbrev pub isSuspended : ℕ
+isSuspended = 26
+
+-- kinds 2 to 4: the job is runnable, but on no processor
 abbrev pub onNoProcessor : ℕ
 onNoProcessor = 19
 

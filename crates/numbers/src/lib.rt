@@ -56,6 +56,8 @@ impl Refusal {
     pub const ARRIVES_EARLY: u8 = 17;
 
     pub const NOT_PENDING: u8 = 18;
+    // Judged in 19's place, and so before it.
+    pub const IS_SUSPENDED: u8 = 26;
 
     pub const ON_NO_PROCESSOR: u8 = 19;
 

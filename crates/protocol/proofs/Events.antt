@@ -3,5 +3,7 @@ pub mod Edited
 pub mod Kept
 pub mod Times
 pub mod TimesKept
+pub mod Situations
 pub mod Step
 pub mod Numbers
+pub mod Reasons

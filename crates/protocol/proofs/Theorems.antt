@@ -11,11 +11,12 @@ use Rattle.setups.specs.Clearing.{cleared, emptyFrom, isClear}
 use Rattle.input.specs.declared.Setup.{Setup}
 use Rattle.protocol.specs.Records.{noTask, noGroup}
 use Rattle.protocol.specs.Events.{Move, fresh, begin, after}
-use Rattle.protocol.specs.Demands.{Given, LinksHighest, ShortQueue, AlwaysSound, AlwaysDemand3, AlwaysCharges, AlwaysSums, ForemostAreHighest, RefusedLeftOut, RefusedKeeps, RefusedIsEmpty}
+use Rattle.protocol.specs.Demands.{Given, LinksHighest, ShortQueue, AlwaysSound, AlwaysDemand3, AlwaysCharges, AlwaysSums, ForemostAreHighest, RefusedLeftOut, RefusedKeeps, AnswersTellWhy, RefusedIsEmpty}
 use Rattle.protocol.proofs.Sound.Statements.{Sound}
 use Rattle.protocol.proofs.Sound.Begin.{begin-sound}
 use Rattle.protocol.proofs.Sound.Reflect.{test-of-sound}
 use Rattle.protocol.proofs.Events.Step.{run-sound-by, run-setup-by, refused-out, refused-keeps-by}
+use Rattle.protocol.proofs.Events.Reasons.{answer-tells}
 use Rattle.protocol.proofs.Demands.Foremost.{foremost-highest}
 use Rattle.protocol.proofs.Demands.Totals.{charges, totals-after}
 use Rattle.protocol.proofs.Demands.SoundStates.{priorities-apart, links-highest, one-holder, chains-end, one-place}
@@ -71,6 +72,9 @@ refused-out-after c g ms m ns h = refused-out (begin c .state) ms ns m h
 
 pub refused-kept : RefusedKeeps
 refused-kept = refused-keeps-by
+
+pub answers-tell-why : AnswersTellWhy
+answers-tell-why pick s e = answer-tells s e pick
 
 pub refused-empty : RefusedIsEmpty
 unfolding begin fresh noneLinked isClear emptyFrom allBelow

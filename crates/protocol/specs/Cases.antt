@@ -212,7 +212,8 @@ cases =
           ∷ [];
     }
     -- Giving way. Task 0 completes while 2 runs, non-preemptable, where 3 is linked: 0 gives way to 2, and 3 moves.
-    -- Then task 1 resumes, higher than 2 by what it inherits from 4 alone.
+    -- Then task 1 resumes, higher than 2 by what it inherits from 4 alone. At the end 4 is suspended, 0 is ready, and 1
+    -- is linked but not running.
     ∷ record {
       setup = given 2 0 (1000 ∷ 800 ∷ 500 ∷ 300 ∷ 100 ∷ []) (two 1 0) [] [];
       groups = two 0 1;
@@ -227,6 +228,11 @@ cases =
           ∷ line 3 4 0 6 0 (two 0 2) (two 0 2)
           ∷ line 1 3 0 7 0 (two 0 3) (two 0 2)
           ∷ line 4 0 0 8 0 (two 3 1) (two 3 2)
+          ∷ line 2 4 0 9 26 (two 3 1) (two 3 2)
+          ∷ line 4 4 0 9 26 (two 3 1) (two 3 2)
+          ∷ line 1 4 0 9 16 (two 3 1) (two 3 2)
+          ∷ line 2 0 0 9 19 (two 3 1) (two 3 2)
+          ∷ line 2 1 0 9 19 (two 3 1) (two 3 2)
           ∷ [];
       totals =
           (7 ∷ 0 ∷ 0 ∷ 1 ∷ 0 ∷ 0 ∷ [])

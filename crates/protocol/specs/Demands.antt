@@ -11,11 +11,12 @@ use lib.ListN.{length, getD, set}
 use Rattle.search.specs.Words.{if_then_else_, _is_, _isn't_}
 use Rattle.search.specs.Below.{howMany}
 use Rattle.numbers.specs.Limits.{mostProcessors, mostTasks, nobody}
+use Rattle.numbers.specs.Refusals.{notSound, clockPastEnd, isSuspended, onNoProcessor}
 use Rattle.processors.specs.Words.{link, runs}
 use Rattle.scheduler.specs.Placed.{Sized, Settled}
 use Rattle.scheduler.specs.PlacedTest.{isPlaced}
 use Rattle.input.specs.Kinds.{short, arrival, finish, request as asking, completion}
-use Rattle.input.specs.Words.{kind}
+use Rattle.input.specs.Words.{within, kind}
 use Rattle.setups.specs.Refusals.{setupRefusal}
 use Rattle.setups.specs.Naming.{groupOf}
 use Rattle.setups.specs.Clearing.{isClear}
@@ -212,6 +213,30 @@ RefusedLeftOut = Always (λ c ms. (m : Move) (ns : List Move) → judge (after c
 -- a refused event hands back the very state, whatever is suggested
 abbrev pub RefusedKeeps : Type 0
 RefusedKeeps = (pick : Prefers) (s : State) (e : Event) → stepBy pick s e .answer ≢ 0 → stepBy pick s e .state ≡ s
+
+-- t's job is runnable, and no processor runs it
+abbrev pub IsOff : State → ℕ → Type 0
+IsOff s t = (isRunnable s t ≡ true) × ((k : ℕ) → k < mostProcessors → runs (s .processors) k ≢ t)
+
+-- e is a finish, a request or a completion
+abbrev pub isOfJob : Event → Bool
+isOfJob e = within finish (e .kind) completion
+
+-- n is one of 9 to 15, which are judged before the job is looked at
+abbrev pub isEarlier : ℕ → Bool
+isEarlier n = within notSound n clockPastEnd
+
+-- The answer n to e tells why the job is not on a processor: 26 is given of a suspended job, 19 of a runnable one that
+-- no processor runs; and of such jobs nothing else is, but 9 to 15.
+pub record TellsWhy (s : State) (e : Event) (n : ℕ) : Type 0 where
+  pub suspended-given : n ≡ isSuspended → (isOfJob e ≡ true) × (stand s (e .task) ≡ suspended)
+  pub off-given : n ≡ onNoProcessor → (isOfJob e ≡ true) × IsOff s (e .task)
+  pub of-suspended : isOfJob e ≡ true → stand s (e .task) ≡ suspended → (n ≡ isSuspended) ⊎ (isEarlier n ≡ true)
+  pub of-off : isOfJob e ≡ true → IsOff s (e .task) → (n ≡ onNoProcessor) ⊎ (isEarlier n ≡ true)
+
+-- so does every answer, in any state and whatever is suggested
+abbrev pub AnswersTellWhy : Type 0
+AnswersTellWhy = (pick : Prefers) (s : State) (e : Event) → TellsWhy s e (stepBy pick s e .answer)
 
 -- the empty state: no processors, no tasks, no locks, clock 0
 pub record IsEmpty (s : State) : Type 0 where

@@ -2,7 +2,7 @@
 -- and 0 when none does.
 use mathlib.Core.Path.{_≡_}
 use mathlib.Core.Logic.{_↔_}
-use Rattle.numbers.specs.Refusals.{notSound, eventUnknown, taskUnknown, resourceUnknown, fieldUnused, stepBackward, clockPastEnd, alreadyPending, arrivesEarly, notPending, onNoProcessor, isSpinning, finishesOpen, alreadyOpen, wronglyNested, tooManyOpen, notNewest}
+use Rattle.numbers.specs.Refusals.{notSound, eventUnknown, taskUnknown, resourceUnknown, fieldUnused, stepBackward, clockPastEnd, alreadyPending, arrivesEarly, notPending, isSuspended, onNoProcessor, isSpinning, finishesOpen, alreadyOpen, wronglyNested, tooManyOpen, notNewest}
 use Rattle.numbers.specs.Numbered.{FirstAt, NoneApplies}
 use Rattle.input.specs.declared.Event.{Event}
 use Rattle.protocol.specs.Refusals.{eventRows, judge}
@@ -20,10 +20,11 @@ pub record EventNumbers (s : State) (e : Event) : Type 0 where
   pub arrives-pending : (judge s e ≡ alreadyPending) ↔ FirstAt (eventRows s e) 7
   pub arrives-early : (judge s e ≡ arrivesEarly) ↔ FirstAt (eventRows s e) 8
   pub no-job : (judge s e ≡ notPending) ↔ FirstAt (eventRows s e) 9
-  pub on-no-processor : (judge s e ≡ onNoProcessor) ↔ FirstAt (eventRows s e) 10
-  pub job-spins : (judge s e ≡ isSpinning) ↔ FirstAt (eventRows s e) 11
-  pub finishes-open : (judge s e ≡ finishesOpen) ↔ FirstAt (eventRows s e) 12
-  pub asks-again : (judge s e ≡ alreadyOpen) ↔ FirstAt (eventRows s e) 13
-  pub asks-misplaced : (judge s e ≡ wronglyNested) ↔ FirstAt (eventRows s e) 14
-  pub asks-ninth : (judge s e ≡ tooManyOpen) ↔ FirstAt (eventRows s e) 15
-  pub not-newest : (judge s e ≡ notNewest) ↔ FirstAt (eventRows s e) 16
+  pub job-suspended : (judge s e ≡ isSuspended) ↔ FirstAt (eventRows s e) 10
+  pub on-no-processor : (judge s e ≡ onNoProcessor) ↔ FirstAt (eventRows s e) 11
+  pub job-spins : (judge s e ≡ isSpinning) ↔ FirstAt (eventRows s e) 12
+  pub finishes-open : (judge s e ≡ finishesOpen) ↔ FirstAt (eventRows s e) 13
+  pub asks-again : (judge s e ≡ alreadyOpen) ↔ FirstAt (eventRows s e) 14
+  pub asks-misplaced : (judge s e ≡ wronglyNested) ↔ FirstAt (eventRows s e) 15
+  pub asks-ninth : (judge s e ≡ tooManyOpen) ↔ FirstAt (eventRows s e) 16
+  pub not-newest : (judge s e ≡ notNewest) ↔ FirstAt (eventRows s e) 17

@@ -1,11 +1,11 @@
--- RULES.md, 'The clock' and 'Numbers handed back': the clock step, and the refusals 9 to 25 in the list's order.
+-- RULES.md, 'The clock' and 'Numbers handed back': the clock step, and the refusals 9 to 26 in the list's order.
 use Prim.Native.Nat.{ℕ, _+_, _-_, _%_}
 use mathlib.Core.Bool.{Bool, not, _&&_, _||_}
 use mathlib.Core.List.{List, [], _++_}
 use lib.Dec.{leb, ltb}
 use Rattle.search.specs.Words.{_is_, _isn't_}
 use Rattle.search.specs.Below.{anyBelow}
-use Rattle.numbers.specs.Refusals.{notSound, eventUnknown, taskUnknown, resourceUnknown, fieldUnused, stepBackward, clockPastEnd, alreadyPending, arrivesEarly, notPending, onNoProcessor, isSpinning, finishesOpen, alreadyOpen, wronglyNested, tooManyOpen, notNewest}
+use Rattle.numbers.specs.Refusals.{notSound, eventUnknown, taskUnknown, resourceUnknown, fieldUnused, stepBackward, clockPastEnd, alreadyPending, arrivesEarly, notPending, isSuspended, onNoProcessor, isSpinning, finishesOpen, alreadyOpen, wronglyNested, tooManyOpen, notNewest}
 use Rattle.numbers.specs.Rows.{Row, _when_, _otherwise_, firstOf}
 use Rattle.input.specs.Kinds.{short, long, arrival, finish, request as asking, completion, passing, fieldsOf}
 use Rattle.input.specs.Words.{within, period, kind}
@@ -55,7 +55,7 @@ fieldRows tasks resources e =
     fieldUnused when (not (uses .task) && e .task isn't 0) || (not (uses .resource) && e .resource isn't 0) otherwise
     []
 
--- the list of 9 to 25
+-- the list of 9 to 26; 26 is in 19's place, for a job that is suspended
 unfoldable pub eventRows : State → Event → List Row
 eventRows s e =
     let c = s .setup in
@@ -72,6 +72,7 @@ eventRows s e =
     alreadyPending when e .kind is arrival && stand s t isn't absent otherwise
     arrivesEarly when comesAgain && ltb (clockAfter s e) (task s t .last + period c t) otherwise
     notPending when acts && refusal is notPending otherwise
+    isSuspended when acts && refusal is isSuspended otherwise
     onNoProcessor when acts && refusal is onNoProcessor otherwise
     isSpinning when acts && refusal is isSpinning otherwise
     finishesOpen when e .kind is finish && depth s t isn't 0 otherwise

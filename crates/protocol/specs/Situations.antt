@@ -4,7 +4,7 @@ use mathlib.Core.Bool.{Bool, true, false, _&&_}
 use lib.Dec.{ltb}
 use Rattle.search.specs.Words.{if_then_else_, _is_, _isn't_}
 use Rattle.search.specs.Below.{howMany}
-use Rattle.numbers.specs.Refusals.{notPending, onNoProcessor, isSpinning}
+use Rattle.numbers.specs.Refusals.{notPending, isSuspended, onNoProcessor, isSpinning}
 use Rattle.numbers.specs.Limits.{mostProcessors, mostTasks}
 use Rattle.processors.specs.Words.{linkOf, runOf}
 use Rattle.processors.specs.declared.Processors.{Processors}
@@ -52,11 +52,12 @@ totalOf NoJob foremost = totalCount
 unfoldable pub totalFor : State → ℕ → ℕ
 totalFor s t = totalOf (situation s t) (isForemost s t)
 
--- the refusal of a finish, request or completion in a situation, 18 to 20, or 0
+-- the refusal of a finish, request or completion in a situation: 18, 26, 19 or 20, or 0. A job on no processor is
+-- suspended, or runnable
 abbrev pub situationRefusal : Situation → ℕ
 situationRefusal NoJob = notPending
+situationRefusal Suspended = isSuspended
 situationRefusal LinkedOnly = onNoProcessor
 situationRefusal Ready = onNoProcessor
-situationRefusal Suspended = onNoProcessor
 situationRefusal Spinning = isSpinning
 situationRefusal Running = 0

@@ -28,10 +28,13 @@ module _ (l : List ℕ) (t : ℕ) where
   here : placeOf l t < mostProcessors → getD l (placeOf l t) nobody ≡ t
   here h = eqb-true _ _ (first-law (λ k. getD l k nobody is t) 0 mostProcessors .here h)
 
+  not-there : mostProcessors ≤ placeOf l t → (k : ℕ) → k < mostProcessors → getD l k nobody ≢ t
+  not-there h k m = eqb-false _ _ (first-law (λ k. getD l k nobody is t) 0 mostProcessors .before k (omega arith) (omega arith))
+
   module _ (sized : length l ≡ mostProcessors) (some : t ≢ nobody) where
     nowhere : mostProcessors ≤ placeOf l t → (k : ℕ) → getD l k nobody ≢ t
     nowhere h k e = elim (decLt k mostProcessors) [
-      | yes y ↦ eqb-false _ _ (first-law (λ k. getD l k nobody is t) 0 mostProcessors .before k (omega arith) (omega arith)) e
+      | yes y ↦ not-there h k y e
       | no y ↦ some (sym e ∙ List·getD-eq-default l nobody {n = k} (omega arith))
     ]
 
@@ -46,6 +49,10 @@ module _ (p : Processors) (t : ℕ) where
   pub run-here : runOf p t < mostProcessors → runs p (runOf p t) ≡ t
   unfolding runOf
   run-here h = here (p .running) t h
+
+  pub run-not-there : mostProcessors ≤ runOf p t → (k : ℕ) → k < mostProcessors → runs p k ≢ t
+  unfolding runOf
+  run-not-there h = not-there (p .running) t h
 
   module _ (Z : Sized p) (some : t ≢ nobody) where
     pub link-nowhere : mostProcessors ≤ linkOf p t → Unlinked p t

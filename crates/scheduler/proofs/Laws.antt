@@ -2,7 +2,7 @@
 use Prim.Native.Nat.{ℕ, suc, _<_, _≤_}
 use mathlib.Core.Path.{_≡_, refl, subst}
 use mathlib.Core.Bool.{Bool, true, false, _&&_}
-use mathlib.Core.Logic.{_⊎_, inl, _↔_}
+use mathlib.Core.Logic.{_≢_, _⊎_, inl, _↔_}
 use native.Mathlib.Omega.{arith}
 use native.Mathlib.Decide.{decLt}
 use lib.Dec.{ltb}
@@ -18,7 +18,7 @@ use Rattle.scheduler.specs.Placed.{Runnable, Sized, Settled, Counted, Pl
 use Rattle.scheduler.specs.Changes.{Alike, Joins, BecomesNonPreemptable, BecomesPreemptable, Inherits, Leaves, Restores, Chosen}
 use Rattle.processors.specs.declared.Jobs.{Jobs}
 use Rattle.processors.specs.declared.Processors.{Processors}
-use Rattle.scheduler.proofs.Finds.{link-here, link-somewhere, run-here, run-somewhere, taken-chosen}
+use Rattle.scheduler.proofs.Finds.{link-here, link-somewhere, run-here, run-not-there, run-somewhere, taken-chosen}
 use Rattle.scheduler.proofs.Coming.{coming-placed}
 use Rattle.scheduler.proofs.Going.{raised-placed, gives-way-placed}
 use Rattle.scheduler.proofs.Staying.{alike-placed, harden-placed, soften-placed}
@@ -28,6 +28,9 @@ use Rattle.scheduler.proofs.Waits.{coming-waits, soften-waits, going-wa
 -- ---- where a task is
 pub runs-there : (p : Processors) (t : ℕ) → runOf p t < mostProcessors → runs p (runOf p t) ≡ t
 runs-there p t h = run-here p t h
+
+pub runs-nowhere : (p : Processors) (t : ℕ) → mostProcessors ≤ runOf p t → (k : ℕ) → k < mostProcessors → runs p k ≢ t
+runs-nowhere p t h = run-not-there p t h
 
 module _ (p : Processors) (Z : Sized p) (t : ℕ) (t-in : t < mostTasks) where
   pub linked-iff : (linkOf p t < mostProcessors) ↔ ((k : ℕ) × (link p k ≡ t))

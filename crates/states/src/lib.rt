@@ -18,6 +18,7 @@ pub use lookups::request_at;
 pub use reading::linked_to;
 pub use reading::running_on;
 pub use reading::situation;
+pub use reading::situation_refusal;
 pub use reading::snapshot_of;
 pub use reading::totals_of;
 pub use records::no_group;

@@ -1,7 +1,8 @@
-// What is read from a state: situations, totals, links and placements.
+// What is read from a state: situations and what each refuses, totals, links and placements.
 use crate::records::task_at;
 use crate::standings::situation_of;
 use crate::standings::stand_of;
+use numbers::Refusal;
 use processors::Processors;
 use protocol::Reply;
 use protocol::Situation;
@@ -10,7 +11,7 @@ use protocol::Task;
 ghost use mathlib.Core.Path.{_≡_};
 ghost use Rattle.processors.specs.Words.{link, runs};
 ghost use Rattle.protocol.specs.Words.{task as taskRecord};
-ghost use Rattle.protocol.specs.Situations.{situation as situationRule};
+ghost use Rattle.protocol.specs.Situations.{situation as situationRule, situationRefusal};
 ghost use Rattle.states.specs.Writing.{snapshotOf};
 
 // What the job of task `t` is doing.
@@ -24,7 +25,22 @@ pub fn situation(state: State, t: u8) -> Situation
     situation_of(stand_of(standing), p, t)
 }
 
-// The totals of task `t`: running, spinning, linked but not running, ready, suspended.
+// The refusal of a finish, request or completion in a situation: 18, 26, 19 or 20, or 0. It tells a suspended job from
+// one that could run and is on no processor.
+pub fn situation_refusal(situation: Situation) -> u8
+    ensures { λ r. ⌜ r ≡ situationRefusal situation ⌝ }
+{
+    match situation {
+        Situation::NoJob => Refusal::NOT_PENDING,
+        Situation::Suspended => Refusal::IS_SUSPENDED,
+        Situation::LinkedOnly => Refusal::ON_NO_PROCESSOR,
+        Situation::Ready => Refusal::ON_NO_PROCESSOR,
+        Situation::Spinning => Refusal::IS_SPINNING,
+        Situation::Running => 0,
+    }
+}
+
+// The totals of task `t`: running, spinning, linked but not running, ready, direct blocking, suspended otherwise.
 pub fn totals_of(state: State, t: u8) -> [u32; Task::TOTALS]
     ensures { λ r. ⌜ r ≡ taskRecord state t .totals ⌝ }
 {

@@ -1,20 +1,18 @@
 -- An accepted event keeps the sound state, and a refused one hands back the very state. Assumes nothing.
 use Prim.Native.Nat.{ℕ, zero, suc, _+_, _-_, _<_, _≤_}
 use mathlib.Core.Path.{_≡_, refl, sym, ap, subst, _∙_}
-use mathlib.Core.Bool.{Bool, true, false}
+use mathlib.Core.Bool.{true}
 use mathlib.Core.List.{List, [], _∷_, _++_, map-append}
 use mathlib.Core.Logic.{_≢_, ⊎-elim}
 use native.Mathlib.Omega.{arith}
 use native.Mathlib.Decide.{ℕ-discrete}
-use lib.Dec.{ltb}
 use lib.ListN.{length}
-use borrow.Author.Tests.{ltb-true, eqb-false, eq-eqb, ne-eqb}
-use Rattle.search.specs.Words.{if_then_else_, _is_}
+use borrow.Author.Tests.{eq-eqb, ne-eqb}
 use Rattle.numbers.specs.Numbered.{NoneApplies}
 use Rattle.search.proofs.Tests.{tests}
 use Rattle.numbers.proofs.Refusals.{none-iff}
 use Rattle.numbers.specs.Limits.{mostProcessors, mostTasks, mostRequests}
-use Rattle.processors.specs.Words.{linkOf, runOf}
+use Rattle.processors.specs.Words.{runOf}
 use Rattle.scheduler.specs.Placed.{Served}
 use Rattle.scheduler.proofs.Laws.{served-law, arriving-count, leaving-count, becoming-preemptable-count, giving-way-count}
 use Rattle.input.specs.Kinds.{short, long, arrival, finish, request as asking, completion, passing, fieldsOf}
@@ -25,7 +23,7 @@ use Rattle.setups.specs.Clearing.{isClear}
 use Rattle.input.specs.declared.Setup.{Setup}
 use Rattle.input.specs.declared.Event.{Event}
 use Rattle.setups.proofs.Accepted.{and-none-iff}
-use Rattle.protocol.specs.Words.{lastClock, absent, spinning, suspended, stand, depth, request}
+use Rattle.protocol.specs.Words.{lastClock, absent, stand, depth, request}
 use Rattle.protocol.specs.Ranks.{jobs}
 use Rattle.protocol.specs.Situations.{situation, situationRefusal}
 use Rattle.protocol.specs.Refusals.{stepOf, misplaced, eventRows, judge}
@@ -33,11 +31,11 @@ use Rattle.protocol.specs.Locks.{opens, enqueues, closes, frees, nextAt,
 use Rattle.protocol.specs.Edited.{requestEdit, completeEdit, edited}
 use Rattle.protocol.specs.Records.{withProcessors}
 use Rattle.protocol.specs.Events.{Prefers, cold, arrives, leaves, becomesPreemptable, givesWay, arriveEvent, finishEvent, requestEvent, completeEvent, charged, act, Move, moved, stepBy, runBy, step, plain, run}
-use Rattle.protocol.specs.declared.Situation.the-variants.{NoJob, Running, Spinning, LinkedOnly, Ready, Suspended}
 use Rattle.protocol.specs.declared.State.{State}
 use Rattle.protocol.proofs.Sound.Statements.{Grouped, Times, Steady, Sound, Acts, Asks, Ends, SameTask}
 use Rattle.protocol.proofs.Sound.Begin.{accepted-grouped}
 use Rattle.protocol.proofs.Events.Branches.{kind-by, request-by, complete-by}
+use Rattle.protocol.proofs.Events.Situations.{unhindered}
 use Rattle.protocol.proofs.Events.Edited.{Does, step-does, by-edit}
 use Rattle.protocol.proofs.Jobs.Modes.{mode-runs}
 use Rattle.protocol.proofs.Events.Kept.{with-steady, Rests, arrive-steady, arrive-placed, finish-steady, finish-placed, request-steady, request-placed, complete-steady, complete-placed}
@@ -62,17 +60,6 @@ uses-resource (suc (suc zero)) h = absurd (omega arith)
 uses-resource (suc (suc (suc zero))) h = refl
 uses-resource (suc (suc (suc (suc zero)))) h = refl
 uses-resource (suc (suc (suc (suc (suc k))))) h = absurd (omega arith)
-
--- what hinders nothing: here, not spinning, on a processor
-unhindered : (here asleep on spins linked : Bool) (n : ℕ)
-    → situationRefusal (if here then NoJob else if asleep then Suspended else if on then (if spins then Spinning else Running) else if linked then LinkedOnly else Ready) ≡ n
-    → n ≢ 18 → n ≢ 19 → n ≢ 20 → (here ≡ false) × (on ≡ true) × (spins ≡ false)
-unhindered true b d f g n e x y z = absurd (x (sym e))
-unhindered false true d f g n e x y z = absurd (y (sym e))
-unhindered false false true true g n e x y z = absurd (z (sym e))
-unhindered false false true false g n e x y z = (refl, refl, refl)
-unhindered false false false f true n e x y z = absurd (y (sym e))
-unhindered false false false f false n e x y z = absurd (y (sym e))
 
 -- s′ is sound, with the set-up of s
 abbrev Keeps : State → State → Type 0
@@ -123,36 +110,40 @@ module _ (s : State) (e : Event) (Q : Sound s) (ok : judge s e ≡ 0) where
   module _ (k : (finish ≤ e .kind) × (e .kind ≤ completion)) where
     row18 : situationRefusal (situation s t) ≢ 18
     unfolding eventRows
-    row18 = (simp (tests, and-none-iff) at (no-row 9 (omega arith))) k
+    row18 = (simp (tests, and-none-iff) at (no-row 9 (omega arith))) (omega arith)
+
+    row26 : situationRefusal (situation s t) ≢ 26
+    unfolding eventRows
+    row26 = (simp (tests, and-none-iff) at (no-row 10 (omega arith))) (omega arith)
 
     row19 : situationRefusal (situation s t) ≢ 19
     unfolding eventRows
-    row19 = (simp (tests, and-none-iff) at (no-row 10 (omega arith))) k
+    row19 = (simp (tests, and-none-iff) at (no-row 11 (omega arith))) (omega arith)
 
     row20 : situationRefusal (situation s t) ≢ 20
     unfolding eventRows
-    row20 = (simp (tests, and-none-iff) at (no-row 11 (omega arith))) k
+    row20 = (simp (tests, and-none-iff) at (no-row 12 (omega arith))) (omega arith)
 
   row21 : e .kind ≡ finish → depth s t ≡ 0
   unfolding eventRows
-  row21 = simp (tests, and-none-iff) at (no-row 12 (omega arith))
+  row21 = simp (tests, and-none-iff) at (no-row 13 (omega arith))
 
   row22 : e .kind ≡ asking → (i : ℕ) → i < depth s t → request s t i ≢ r
   unfolding eventRows
-  row22 = simp (tests, and-none-iff) at (no-row 13 (omega arith))
+  row22 = simp (tests, and-none-iff) at (no-row 14 (omega arith))
 
   row23 : e .kind ≡ asking → (i : ℕ) → i < depth s t
       → (kind c r ≡ long → kind c (request s t i) ≢ short) × (kind c (request s t i) ≡ kind c r → groupOf c (request s t i) ≡ groupOf c r)
   unfolding eventRows misplaced
-  row23 = simp (tests, and-none-iff) at (no-row 14 (omega arith))
+  row23 = simp (tests, and-none-iff) at (no-row 15 (omega arith))
 
   row24 : e .kind ≡ asking → depth s t ≢ mostRequests
   unfolding eventRows
-  row24 = simp (tests, and-none-iff) at (no-row 15 (omega arith))
+  row24 = simp (tests, and-none-iff) at (no-row 16 (omega arith))
 
   row25 : e .kind ≡ completion → (depth s t ≢ 0) × (request s t (depth s t - 1) ≡ r)
   unfolding eventRows
-  row25 = simp (tests, and-none-iff) at (no-row 16 (omega arith))
+  row25 = simp (tests, and-none-iff) at (no-row 17 (omega arith))
 
   -- ---- the state charged with the event's ticks
   pub grouped : Grouped (s .setup)
@@ -169,14 +160,14 @@ module _ (s : State) (e : Event) (Q : Sound s) (ok : judge s e ≡ 0) where
 
   -- ---- the job named runs and does not spin
   pub acts-of : (finish ≤ e .kind) × (e .kind ≤ completion) → Acts (charged (stepOf s e) s) (e .task)
-  unfolding situation charged
+  unfolding charged
   acts-of k =
       let p = s .processors in
-      let z = unhindered (stand s t is absent) (stand s t is suspended) (ltb (runOf p t) mostProcessors) (stand s t is spinning) (ltb (linkOf p t) mostProcessors) _ refl (row18 k) (row19 k) (row20 k) in
-      let on : runOf p t < mostProcessors = ltb-true _ _ (z .1) in
+      let z = unhindered s t (row18 k) (row26 k) (row19 k) (row20 k) in
+      let on : runOf p t < mostProcessors = z .1 in
       let t-in : t < mostTasks = omega (arith, row11 (omega arith), grouped .few-tasks) in
       let m = mode-runs c s t (sound-served s Q .runnable t t-in on .mode) in
-      record { on = on; act = same-of t .stood ∙ ⊎-elim (λ y. y) (λ y. absurd (eqb-false _ _ (z .2) y)) (m .1) }
+      record { on = on; act = same-of t .stood ∙ ⊎-elim (λ y. y) (λ y. absurd (z .0 y)) (m .1) }
 
   pub asks-of : e .kind ≡ asking → Asks (s .setup) (charged (stepOf s e) s) (e .task) (e .resource)
   asks-of k =

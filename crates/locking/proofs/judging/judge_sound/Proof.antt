@@ -1,8 +1,8 @@
 -- The rows of the code are those of the rule. Assumes nothing.
 use borrow.Author.Needs.{needs}
 use Prim.Native.Nat.{ℕ, _+_, _-_}
-use mathlib.Core.Path.{_≡_, sym, ap}
-use mathlib.Core.Bool.{Bool, true, _&&_, _||_}
+use mathlib.Core.Path.{_≡_, refl, sym, ap}
+use mathlib.Core.Bool.{Bool, true, false, _&&_, _||_}
 use mathlib.Core.List.{List, [], _++_}
 use lib.Dec.{leb, ltb}
 use lib.ListN.{getD}
@@ -21,13 +21,26 @@ use Rattle.protocol.specs.Situations.{situationOf, situation, situationRefusal}
 use Rattle.protocol.specs.Refusals.{ticksTo, misplaced, fieldRows, eventRows, judge}
 use Rattle.protocol.specs.declared.Task.{Task}
 use Rattle.protocol.specs.declared.Situation.{Situation}
+use Rattle.protocol.specs.declared.Situation.the-variants.{NoJob, Running, Spinning, LinkedOnly, Ready, Suspended}
 use Rattle.protocol.specs.declared.State.{State}
 use Rattle.locking.specs.Steps.{isApart, HasParts}
 use Rattle.locking.proofs.judging.judge_sound.Statement.{statement}
 use Rattle.locking.proofs.judging.judge_sound.Tie as tie
 
+-- one row gives what the situation's four rows give
+situation-row : (b : Bool) (x : Situation) (later : ℕ)
+    → (if b && situationRefusal x isn't 0 then situationRefusal x else later)
+    ≡ (if b && situationRefusal x is 18 then 18 else if b && situationRefusal x is 26 then 26 else if b && situationRefusal x is 19 then 19 else if b && situationRefusal x is 20 then 20 else later)
+situation-row false x later = refl
+situation-row true NoJob later = refl
+situation-row true Running later = refl
+situation-row true Spinning later = refl
+situation-row true LinkedOnly later = refl
+situation-row true Ready later = refl
+situation-row true Suspended later = refl
+
 -- the rule from what the code reads and computes, line by line
-judged : (s : State) (e : Event) {c : Setup} {clock : ℕ} {k : Task} {p : Processors} {naming : List ℕ} {x : Situation} {st refusal now per new step r25 r24 r23 r22 r21 r20 r19 r18 r17 r16 r15 r14 r10 : ℕ} {mis seen : Bool}
+judged : (s : State) (e : Event) {c : Setup} {clock : ℕ} {k : Task} {p : Processors} {naming : List ℕ} {x : Situation} {st refusal now per new step r25 r24 r23 r22 r21 r18 r17 r16 r15 r14 r10 : ℕ} {mis seen : Bool}
     → st ≡ standingNo (k .standing)
     → x ≡ situationOf st p (e .task)
     → refusal ≡ situationRefusal x
@@ -41,9 +54,7 @@ judged : (s : State) (e : Event) {c : Setup} {clock : ℕ} {k : Task} {p : Proce
     → seen ≡ anyBelow (k .depth) (λ i. getD (k .requests) i nothing is e .resource)
     → r22 ≡ (if e .kind is asking && seen then 22 else r23)
     → r21 ≡ (if e .kind is finish && k .depth isn't 0 then 21 else r22)
-    → r20 ≡ (if within finish (e .kind) completion && refusal is 20 then 20 else r21)
-    → r19 ≡ (if within finish (e .kind) completion && refusal is 19 then 19 else r20)
-    → r18 ≡ (if within finish (e .kind) completion && refusal is 18 then 18 else r19)
+    → r18 ≡ (if within finish (e .kind) completion && refusal isn't 0 then refusal else r21)
     → r17 ≡ (if e .kind is arrival && k .arrived && ltb now (k .last + per) then 17 else r18)
     → r16 ≡ (if e .kind is arrival && st isn't absent then 16 else r17)
     → r15 ≡ (if ltb lastClock now then 15 else r16)
@@ -53,13 +64,13 @@ judged : (s : State) (e : Event) {c : Setup} {clock : ℕ} {k : Task} {p : Proce
     → HasParts s c clock k p naming true e
     → r10 ≡ judge s e
 unfolding judge eventRows stand depth request situation misplaced groupOf
-judged s e {k = k} st x hin now per new r25 r24 mis r23 seen r22 r21 r20 r19 r18 r17 r16 r15 step r14 r10 has =
+judged s e {k = k} {x = y} {r21 = z} st x hin now per new r25 r24 mis r23 seen r22 r21 r18 r17 r16 r15 step r14 r10 has =
     let at-standing : k .standing ≡ task s (e .task) .standing = sym (ap (λ (x : Task). x .standing) (has .recorded)) in
     let at-requests : k .requests ≡ task s (e .task) .requests = sym (ap (λ (x : Task). x .requests) (has .recorded)) in
     let at-depth : k .depth ≡ task s (e .task) .depth = sym (ap (λ (x : Task). x .depth) (has .recorded)) in
     let at-arrived : k .arrived ≡ task s (e .task) .arrived = sym (ap (λ (x : Task). x .arrived) (has .recorded)) in
     let at-last : k .last ≡ task s (e .task) .last = sym (ap (λ (x : Task). x .last) (has .recorded)) in
-    rw (r10, r14, r15, r16, r17, r18, r19, r20, r21, r22, r23, r24, r25, step, seen, mis, new, per, now, hin, x, st, at-standing, at-requests, at-depth, at-arrived, at-last, has .named, ← (has .truly), has .timed, has .placed, has .given)
+    rw (r10, r14, r15, r16, r17, r18, hin, situation-row (within finish (e .kind) completion) y z, r21, r22, r23, r24, r25, step, seen, mis, new, per, now, x, st, at-standing, at-requests, at-depth, at-arrived, at-last, has .named, ← (has .truly), has .timed, has .placed, has .given)
 
 stand-of-requires : tie.Need-stand-of-requires
 stand-of-requires c κs = search needs
@@ -121,47 +132,17 @@ row-requires-8 c κs = search needs
 row-requires-9 : tie.Need-row-requires-9
 row-requires-9 c κs = search needs
 
-row-requires-10 : tie.Need-row-requires-10
-row-requires-10 c κs = search needs
-
-row-requires-11 : tie.Need-row-requires-11
-row-requires-11 c κs = search needs
-
 step-to-requires : tie.Need-step-to-requires
 step-to-requires c κs = search needs
 
-row-requires-12 : tie.Need-row-requires-12
-row-requires-12 c κs = search needs
+row-requires-10 : tie.Need-row-requires-10
+row-requires-10 c κs = search needs
 
 field-rows-requires : tie.Need-field-rows-requires
 field-rows-requires c κs = search needs
 
 returns : tie.Need-returns
-returns c = λ s has.
-    judged s ((c .before .before .before .before .before .before .before .before .before .before .before .before .before .before .before .before .before .before .before .before .before .before .before .before .before .before .before .before .before .before .before .before .before .before .args) .e)
-    ((c .before .before .before .before .before .before .before .before .before .before .before .before .before .before .before .before .before .before .before .before .before .before .before .before .before .before .before .before .before .before .stand-of) .ensures)
-    ((c .before .before .before .before .before .before .before .before .before .before .before .before .before .before .before .before .before .before .before .before .before .before .before .before .before .before .before .before .before .situation-of) .ensures)
-    ((c .before .before .before .before .before .before .before .before .before .before .before .before .before .before .before .before .before .before .before .before .before .before .before .before .before .before .before .before .situation-refusal) .ensures)
-    ((c .before .before .before .before .before .before .before .before .before .before .before .before .before .before .before .before .before .before .before .before .before .before .before .before .before .before .before .clock-after) .ensures)
-    ((c .before .before .before .before .before .before .before .before .before .before .before .before .before .before .before .before .before .before .before .before .before .before .before .before .before .period-at) .ensures)
-    ((c .before .before .before .before .before .before .before .before .before .before .before .before .before .before .before .before .before .before .newest) .ensures)
-    ((c .before .before .before .before .before .before .before .before .before .before .before .before .before .before .before .before .row) .ensures)
-    ((c .before .before .before .before .before .before .before .before .before .before .before .before .before .before .before .row2) .ensures)
-    ((c .before .before .before .before .before .before .before .before .before .before .before .before .before .before .is-misplaced) .ensures)
-    ((c .before .before .before .before .before .before .before .before .before .before .before .before .before .row3) .ensures)
-    ((c .before .before .before .before .before .before .before .before .before .before .before .before .is-open) .ensures)
-    ((c .before .before .before .before .before .before .before .before .before .before .before .row4) .ensures)
-    ((c .before .before .before .before .before .before .before .before .before .before .row5) .ensures)
-    ((c .before .before .before .before .before .before .before .before .before .row6) .ensures)
-    ((c .before .before .before .before .before .before .before .before .row7) .ensures)
-    ((c .before .before .before .before .before .before .before .row8) .ensures)
-    ((c .before .before .before .before .before .row9) .ensures)
-    ((c .before .before .before .before .row10) .ensures)
-    ((c .before .before .before .row11) .ensures)
-    ((c .before .before .step-to) .ensures)
-    ((c .before .row12) .ensures)
-    ((c .field-rows) .ensures)
-    has
+returns c = λ s has. judged s ((c .before .before .before .before .before .before .before .before .before .before .before .before .before .before .before .before .before .before .before .before .before .before .before .before .before .before .before .before .before .before .before .before .args) .e) ((c .before .before .before .before .before .before .before .before .before .before .before .before .before .before .before .before .before .before .before .before .before .before .before .before .before .before .before .before .stand-of) .ensures) ((c .before .before .before .before .before .before .before .before .before .before .before .before .before .before .before .before .before .before .before .before .before .before .before .before .before .before .before .situation-of) .ensures) ((c .before .before .before .before .before .before .before .before .before .before .before .before .before .before .before .before .before .before .before .before .before .before .before .before .before .before .situation-refusal) .ensures) ((c .before .before .before .before .before .before .before .before .before .before .before .before .before .before .before .before .before .before .before .before .before .before .before .before .before .clock-after) .ensures) ((c .before .before .before .before .before .before .before .before .before .before .before .before .before .before .before .before .before .before .before .before .before .before .before .period-at) .ensures) ((c .before .before .before .before .before .before .before .before .before .before .before .before .before .before .before .before .newest) .ensures) ((c .before .before .before .before .before .before .before .before .before .before .before .before .before .before .row) .ensures) ((c .before .before .before .before .before .before .before .before .before .before .before .before .before .row2) .ensures) ((c .before .before .before .before .before .before .before .before .before .before .before .before .is-misplaced) .ensures) ((c .before .before .before .before .before .before .before .before .before .before .before .row3) .ensures) ((c .before .before .before .before .before .before .before .before .before .before .is-open) .ensures) ((c .before .before .before .before .before .before .before .before .before .row4) .ensures) ((c .before .before .before .before .before .before .before .before .row5) .ensures) ((c .before .before .before .before .before .before .before .row6) .ensures) ((c .before .before .before .before .before .row7) .ensures) ((c .before .before .before .before .row8) .ensures) ((c .before .before .before .row9) .ensures) ((c .before .before .step-to) .ensures) ((c .before .row10) .ensures) ((c .field-rows) .ensures) has
 
 pub judge-sound-spec : {M : Type 1} → statement M
 judge-sound-spec =
@@ -187,9 +168,7 @@ judge-sound-spec =
     row-requires-7
     row-requires-8
     row-requires-9
-    row-requires-10
-    row-requires-11
     step-to-requires
-    row-requires-12
+    row-requires-10
     field-rows-requires
     returns)
