@@ -227,14 +227,14 @@ abbrev pub isEarlier : ℕ → Bool
 isEarlier n = within notSound n clockPastEnd
 
 -- The answer n to e tells why the job is not on a processor: 26 is given of a suspended job, 19 of a runnable one that
--- no processor runs; and of such jobs nothing else is, but 9 to 15.
+-- no processor runs; and a finish, request or completion of such a job is answered so, or with one of 9 to 15.
 pub record TellsWhy (s : State) (e : Event) (n : ℕ) : Type 0 where
   pub suspended-given : n ≡ isSuspended → (isOfJob e ≡ true) × (stand s (e .task) ≡ suspended)
   pub off-given : n ≡ onNoProcessor → (isOfJob e ≡ true) × IsOff s (e .task)
   pub of-suspended : isOfJob e ≡ true → stand s (e .task) ≡ suspended → (n ≡ isSuspended) ⊎ (isEarlier n ≡ true)
   pub of-off : isOfJob e ≡ true → IsOff s (e .task) → (n ≡ onNoProcessor) ⊎ (isEarlier n ≡ true)
 
--- so does every answer, in any state and whatever is suggested
+-- every answer does so, in any state and whatever is suggested
 abbrev pub AnswersTellWhy : Type 0
 AnswersTellWhy = (pick : Prefers) (s : State) (e : Event) → TellsWhy s e (stepBy pick s e .answer)
 

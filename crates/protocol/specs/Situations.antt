@@ -52,8 +52,8 @@ totalOf NoJob foremost = totalCount
 unfoldable pub totalFor : State → ℕ → ℕ
 totalFor s t = totalOf (situation s t) (isForemost s t)
 
--- the refusal of a finish, request or completion in a situation: 18, 26, 19 or 20, or 0. A job on no processor is
--- suspended, or runnable
+-- the refusal of a finish, request or completion in a situation: 18, 26, 19 or 20, or 0. Of a job on no processor it
+-- says whether it is suspended or runnable
 abbrev pub situationRefusal : Situation → ℕ
 situationRefusal NoJob = notPending
 situationRefusal Suspended = isSuspended
