@@ -133,7 +133,7 @@ def sound_rows():
 
 
 def hostile_rows(one):
-    """'The state is not sound' comes first of 9 to 25, and 'a refused event hands back the same state'.
+    """'The state is not sound' comes first of 9 to 26, and 'a refused event hands back the same state'.
 
     events: whether it is the busy state: no. Judged: 9. Stepped: 9, and the state as before: 1. Both events played: 9,
     9, how many: 2, and the state as before: 1.
