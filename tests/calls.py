@@ -128,7 +128,7 @@ def sound_rows():
     Time passes to tick 9: accepted, and the state is another. The second event played has kind 255: 10.
     """
     first, event, task = 'processors 2 tasks 3 start 65530', f'6 0 {PLACES}', 'task 0 10 0 0 0 0 0'
-    return ['events 1 0 0 0 0 10 2 0', f'state 1 {RUNNABLE} {line(first)} {line(event)} {line(task)}',
+    return ['events 1 0 0 0 0 10 2 0', 'plain 0 0 0 10 2 0', f'state 1 {RUNNABLE} {line(first)} {line(event)} {line(task)}',
             'block ' + page(f'{event}\n', 2, 6, 0, 0), 'end ' + page(totals_text(TOTALS), 1, 5, 1, 1)]
 
 
@@ -137,12 +137,13 @@ def hostile_rows(one):
 
     events: whether it is the busy state: no. Judged: 9. Stepped: 9, and the state as before: 1. Both events played: 9,
     9, how many: 2, and the state as before: 1.
+    plain: stepped by the plain engine, and both events played by it: the same.
     state: whether it is sound: no. The jobs. The three lines: each refused with 9, length 0, nothing written.
     block: a good block is accepted, whatever the state, so the session goes on; the sixth event has the answer 9, and
     the places are those of the same state.
     end: the normal end, so the output is over; the totals of each task.
     """
-    return ['events 0 9 9 1 9 9 2 1', f'state 0 {RUNNABLE} {refused(9)} {refused(9)} {refused(9)}',
+    return ['events 0 9 9 1 9 9 2 1', 'plain 9 1 9 9 2 1', f'state 0 {RUNNABLE} {refused(9)} {refused(9)} {refused(9)}',
             'block ' + page(f'6 9 {one.places}\n', 2, 6, 0, 1), 'end ' + page(totals_text(one.totals), 1, 5, 1, 1)]
 
 
@@ -280,6 +281,36 @@ SCENARIO_LINES = [
 ]
 
 
+# ---- sessions of the plain engine by call: the busy one, in its order and in others ----
+
+# 'The pending jobs by effective priority': task 2 is due at 65,588, task 0 at 65,630, task 1 at 65,732, and nobody
+# inherits, as the resource is short. A row has the order before (how many, and the first four places; 255 is nobody), the
+# answer, whether the state is as before, and the order after. Where the order is not that of the state, 9 comes first of
+# 9 to 26, and the session is handed back.
+BUSY_ORDER = '3 2 0 1 255'
+
+
+def out_of_order(order):
+    return f'{order} 9 1 {order}'
+
+
+ORDERS = [
+    # Time passes: accepted, and the order is as before. An event of no kind: 10.
+    f'{BUSY_ORDER} 0 0 {BUSY_ORDER}', f'{BUSY_ORDER} 10 1 {BUSY_ORDER}',
+    # The first two exchanged: time passes, and an event of no kind.
+    out_of_order('3 0 2 1 255'), out_of_order('3 0 2 1 255'),
+    # One counted too few; a task behind the last; nobody at all, and the largest count.
+    out_of_order('2 2 0 1 255'), out_of_order('3 2 0 1 3'), out_of_order(f'{MOST_64} 255 255 255 255'),
+]
+
+
+def alike(data, events):
+    """Behind each file: both engines agree after each event of its accepted blocks, and in each page: one for each
+    read of 512 bytes, the last of them short or empty, and one more."""
+    pages = len(data) // BLOCK + 2
+    return f'alike {events} of {events} events, {pages} of {pages} pages'
+
+
 def expected():
     rows = [f'call {n} {told}' for n, told in enumerate(CALLS, 1)]
     for n, told in enumerate([sound_rows(), *map(hostile_rows, HOSTILE)]):
@@ -290,4 +321,5 @@ def expected():
     rows += [f'past counts {PAST_COUNTS}']
     rows += [f'write events {told}' for told in EVENTS_WRITTEN]
     rows += [f'line {told}' for told in SCENARIO_LINES]
+    rows += [f'order {told}' for told in ORDERS]
     return ''.join(f'{row}\n' for row in rows)

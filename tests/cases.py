@@ -163,7 +163,9 @@ def stored():
     stdin, stdout = b'', ''
     for n, one in enumerate(CASES, 1):
         stdin += len(one.data).to_bytes(4, 'little') + one.data
-        stdout += '\n'.join([f'case {n}', *judged(one), calls.written_again(one.data)]) + '\n'
+        lines = judged(one)
+        events = sum(line.split()[0].isdigit() for line in lines)
+        stdout += '\n'.join([f'case {n}', *lines, calls.written_again(one.data), calls.alike(one.data, events)]) + '\n'
     assert judged(CASES[0]) == PRINTED.split('\n')[1:-1]
     return {
         'crates/edges/stdin': stdin,

@@ -17,6 +17,8 @@ use libc::STDOUT_FILENO;
 use lines::Line;
 use pages::Page;
 use pages::Session;
+use plain::Order;
+use plain::Plain;
 use processors::Jobs;
 use protocol::Reply;
 use protocol::State;
@@ -50,6 +52,30 @@ fn tell_events(which: u64, state: State, busy: State) {
     print_flag(is_same(state, after));
     let mut written = [LENT; 2 * Reply::SNAPSHOT];
     let played = locking::play(state, &TWO_EVENTS, &mut written);
+    let after = played.state;
+    print_answer(written[0]);
+    print_answer(written[Reply::SNAPSHOT]);
+    print_number(played.count as u64);
+    print_flag(is_same(state, after));
+    end_row();
+}
+
+// The first event stepped by the plain engine, in the busy session's order, and whether the state is as before; and
+// both events played by it, as above.
+fn tell_plain(which: u64, state: State, order: Order) {
+    let e = Event {
+        kind: Event::PASSING,
+        task: 0,
+        resource: 0,
+        tick: 9,
+    };
+    let reply = plain::step(Plain { state, order }, e);
+    let session = reply.session;
+    begin_row(which, b" plain");
+    print_answer(reply.answer);
+    print_flag(is_same(state, session.state));
+    let mut written = [LENT; 2 * Reply::SNAPSHOT];
+    let played = plain::play(state, &TWO_EVENTS, &mut written);
     let after = played.state;
     print_answer(written[0]);
     print_answer(written[Reply::SNAPSHOT]);
@@ -110,16 +136,17 @@ fn tell_pages(which: u64, state: State) {
 }
 
 // All rows of a state.
-fn tell_state(which: u64, state: State, busy: State) {
-    tell_events(which, state, busy);
+fn tell_state(which: u64, state: State, busy: Plain) {
+    tell_events(which, state, busy.state);
+    tell_plain(which, state, busy.order);
     tell_lines(which, state);
     tell_pages(which, state);
 }
 
 // The busy state, and each hostile one.
 pub fn run_all() {
-    let busy = printed::busy();
+    let busy = printed::busy_plain();
     for which in 0..hostile::STATES {
-        tell_state(which, hostile(busy, which), busy);
+        tell_state(which, hostile(busy.state, which), busy);
     }
 }

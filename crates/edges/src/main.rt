@@ -3,6 +3,7 @@
 mod answers;
 mod calls;
 mod comparing;
+mod engines;
 mod files;
 mod hostile;
 mod page_calls;
@@ -20,4 +21,5 @@ fn main() {
     parts::run_all();
     writing::run_all();
     scenarios::run_all();
+    engines::run_all();
 }

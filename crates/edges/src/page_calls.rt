@@ -56,7 +56,7 @@ pub fn print_page(session: Session, read: &[u8], room: usize)
     requires { ⌜ room ≤ pageLimit ⌝ }
 {
     let mut out = [LENT; Page::LIMIT];
-    let page = pages::next_page(session, read, &mut out[0..room]);
+    let page = pages::next_page(session, read, &mut out[0..room], false);
     let after = page.session;
     let len = page.len;
     print_answer(page.number);

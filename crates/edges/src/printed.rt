@@ -1,6 +1,7 @@
 // RULES.md, 'The worked cases': the set-up of the printed case, and its state after five events.
 use input::Event;
 use input::Setup;
+use plain::Plain;
 use protocol::State;
 
 // The set-up of the printed case, with this many processors.
@@ -63,4 +64,25 @@ pub fn busy() -> State {
     let third = after(second, Event::REQUEST, 1, 65535);
     let fourth = after(third, Event::ARRIVAL, 2, 2);
     after(fourth, Event::REQUEST, 0, 4)
+}
+
+// The plain engine's session after an event of the printed case.
+fn plain_after(session: Plain, kind: u8, task: u8, tick: u16) -> Plain {
+    let e = Event {
+        kind,
+        task,
+        resource: 0,
+        tick,
+    };
+    plain::step(session, e).session
+}
+
+// The busy state on the plain engine.
+pub fn busy_plain() -> Plain {
+    let begun = plain::begin(busy_setup()).session;
+    let first = plain_after(begun, Event::ARRIVAL, 0, 65530);
+    let second = plain_after(first, Event::ARRIVAL, 1, 65532);
+    let third = plain_after(second, Event::REQUEST, 1, 65535);
+    let fourth = plain_after(third, Event::ARRIVAL, 2, 2);
+    plain_after(fourth, Event::REQUEST, 0, 4)
 }

@@ -145,6 +145,26 @@ mode-off Active b h = absurd (omega (arith, h))
 mode-off (Waiting (Short r)) b h = absurd (omega (arith, h))
 mode-off (Waiting (Long r)) b h = absurd (omega (arith, h))
 
+-- ---- an accepted event's ticks are charged
+module _ (s : State) (e : Event) (Q : Sound s) (ok : judge s e ≡ 0) (short-periods : (t : ℕ) → period (s .setup) t < 65536) where
+  few : s .setup .tasks ≤ mostTasks
+  few = grouped s e Q ok .few-tasks
+
+  quiet : (u : ℕ) → s .setup .tasks ≤ u → u < mostTasks → stand s u ≡ absent
+  quiet u a b = elim (ℕ-discrete (stand s u) absent) [
+    | yes x ↦ x
+    | no x ↦ absurd (omega (arith, a, Q .steady .locks .tasks u .inside x))
+  ]
+
+  bounded : isBounded s ≡ true
+  bounded = within-bounds s (grouped s e Q ok .few-resources)
+      (λ u l. omega (arith, deadline-bounded (charged (stepOf s e) s) (can-act s e Q ok short-periods .bounded) u l, charged-by (λ (x : Task). x .deadline) (λ i m x. refl) (stepOf s e) s u l))
+
+  ticked : (clock : ℕ) (ts : List Task) (gs : List Group) (p : Processors) (totals own modes stands : List ℕ) → Keeps s clock ts gs p totals own modes stands
+      → (ahead : List ℕ) → Ranked stands own (s .setup .tasks) ahead
+      → Keeps (charged (stepOf s e) s) (clock + stepOf s e) ts gs p (chargedTo (stepOf s e) stands (totalWith stands ahead p) totals (s .setup .tasks)) own modes stands
+  ticked clock ts gs p totals own modes stands K ahead R = keeps-charge s clock ts gs p totals own modes stands K (stepOf s e) (s .setup .tasks) ahead few quiet bounded (Q .count) R
+
 -- ---- an accepted event, from what is kept of a sound state; g is the place of its group
 module _ (s : State) (e : Event) (Q : Sound s) (ok : judge s e ≡ 0) (short-periods : (t : ℕ) → period (s .setup) t < 65536)
     (clock : ℕ) (ts : List Task) (gs : List Group) (p : Processors) (totals own modes stands : List ℕ) (K : Keeps s clock ts gs p totals own modes stands)
@@ -166,24 +186,11 @@ module _ (s : State) (e : Event) (Q : Sound s) (ok : judge s e ≡ 0) (short-per
   abbrev w : List ℕ
   w = chargedTo n stands (totalWith stands ahead p) totals (s .setup .tasks)
 
-  few : s .setup .tasks ≤ mostTasks
-  few = grouped s e Q ok .few-tasks
-
-  quiet : (u : ℕ) → s .setup .tasks ≤ u → u < mostTasks → stand s u ≡ absent
-  quiet u a b = elim (ℕ-discrete (stand s u) absent) [
-    | yes x ↦ x
-    | no x ↦ absurd (omega (arith, a, Q .steady .locks .tasks u .inside x))
-  ]
-
   can : CanAct s₁ e
   can = can-act s e Q ok short-periods
 
-  bounded : isBounded s ≡ true
-  bounded = within-bounds s (grouped s e Q ok .few-resources)
-      (λ u l. omega (arith, deadline-bounded s₁ (can .bounded) u l, charged-by (λ (x : Task). x .deadline) (λ i m x. refl) n s u l))
-
   keeps₁ : Keeps s₁ (clock + n) ts gs p w own modes stands
-  keeps₁ = keeps-charge s clock ts gs p totals own modes stands K n (s .setup .tasks) ahead few quiet bounded (Q .count) R
+  keeps₁ = ticked s e Q ok short-periods clock ts gs p totals own modes stands K ahead R
 
   t-in : t < mostTasks
   t-in = can .inside
@@ -259,7 +266,7 @@ module _ (s : State) (e : Event) (Q : Sound s) (ok : judge s e ≡ 0) (short-per
   unfolding stand
   off₂ l v a b =
       let same : task s₂ v ≡ task s₁ v = getD-set-other (s₁ .tasks) t v _ noTask (λ q. omega (arith, q)) in
-      mode-off (task s₂ v .standing) _ (ap (λ (x : Task). standingNo (x .standing)) same ∙ charged-by (λ (x : Task). standingNo (x .standing)) (λ i m x. refl) n s v b ∙ quiet v a b)
+      mode-off (task s₂ v .standing) _ (ap (λ (x : Task). standingNo (x .standing)) same ∙ charged-by (λ (x : Task). standingNo (x .standing)) (λ i m x. refl) n s v b ∙ quiet s e Q ok short-periods v a b)
 
   pub quiet₂ : (d .turn ≡ leave) ⊎ (d .turn ≡ giveWay) → firstModes (s .setup .tasks) modes₂ ≡ modes₂
   unfolding charged
@@ -431,6 +438,10 @@ module _ {s : State} {e : Event} {c : Setup} {clock : ℕ} {ts : List Task} {gs 
     whole = X .keeps .all;
     fits = λ k l. omega (arith, counted-low s ts totals (X .keeps .recorded) (s .clock) (charges s e (X .sound) (X .ok)) k l, clock-room, X .keeps .timed);
   }
+
+  -- the ticks are charged
+  pub charges-on : Keeps (charged (stepOf s e) s) (clock + ticks) ts gs p (chargedTo ticks stands (totalWith stands ahead p) totals (c .tasks)) own modes stands
+  charges-on = rw (X .given, X .stepped) (ticked s e (X .sound) (X .ok) (X .short) clock ts gs p totals own modes stands (X .keeps) ahead (X .ranked))
 
   pub task-in : e .task < mostTasks
   task-in = inside s e (X .sound) (X .ok)

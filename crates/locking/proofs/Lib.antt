@@ -13,3 +13,4 @@ pub mod Runs
 pub mod Shapes
 pub mod Still
 pub mod Totals
+pub mod Unmoved

@@ -19,27 +19,15 @@ use protocol::Reply;
 use protocol::State;
 use soundness::Tested;
 ghost use mathlib.Core.Path.{_≡_};
-ghost use Prim.Native.Nat.{_+_, _≤_, _<_};
-ghost use lib.ListN.{length, getD};
+ghost use Prim.Native.Nat.{_<_};
+ghost use lib.ListN.{getD};
 ghost use Rattle.numbers.specs.Limits.{mostResources, nothing};
 ghost use Rattle.setups.specs.Naming.{names};
 ghost use Rattle.protocol.specs.Sound.{sound};
-ghost use Rattle.states.specs.Writing.{snapshotSize, written};
 ghost use Rattle.locking.specs.Playing.{playable, playedTo, writtenTo, played};
 
-// Writes a snapshot into `out` from `at` on; returns the next write position.
-fn put_snapshot(out: &mut [u8], at: usize, snapshot: [u8; Reply::SNAPSHOT]) -> usize
-    requires { ⌜ at + snapshotSize ≤ length (now out) ⌝ }
-    ensures { λ r. ⌜ (r ≡ at + snapshotSize) × (now (out .exit) ≡ written (now (out .entry)) at snapshot) ⌝ }
-{
-    for i in 0..Reply::SNAPSHOT {
-        out[at + i] = snapshot[i];
-    }
-    at + Reply::SNAPSHOT
-}
-
 // The place of the group of resource `r`; place 0 where it has none, as some record has to be read and stored back.
-fn place_in(naming: [u8; Setup::RESOURCES], r: u8) -> usize
+pub fn place_in(naming: [u8; Setup::RESOURCES], r: u8) -> usize
     ensures { λ g. ⌜ (g < mostResources) × (getD naming r nothing < mostResources → g ≡ getD naming r nothing) ⌝ }
 {
     let g = setups::named_at(naming, r) as usize;
@@ -115,7 +103,7 @@ fn play_events(state: State, tested: Tested, part: &[u8], count: usize, out: &mu
                 p = moved(given.turn, p, kept, setup, groups, edit.next);
             }
         }
-        at = put_snapshot(out, at, states::snapshot_of(answer, p));
+        at = states::put_snapshot(out, at, states::snapshot_of(answer, p));
     }
     State {
         setup,

@@ -5,13 +5,16 @@ use crate::writing::put_events;
 use crate::writing::put_tasks;
 use blocks::Block;
 use blocks::Verdict;
+use locking::Played;
 use numbers::Refusal;
 use protocol::Reply;
+use protocol::State;
 ghost use mathlib.Core.Path.{_≡_};
 ghost use Prim.Native.Nat.{_+_, _≤_, _<_};
 ghost use lib.ListN.{length};
 ghost use Rattle.input.specs.Layout.{setupIn, eventCount};
 ghost use Rattle.protocol.specs.Events.{begin as beginRule};
+ghost use Rattle.locking.specs.Playing.{played};
 ghost use Rattle.blocks.specs.Sizes.{mostEvents};
 ghost use Rattle.blocks.specs.Verdicts.{verdict};
 ghost use Rattle.pages.specs.Pages.{beginning, wide, ended as endedHere, setupPage, eventPage, blockPage, lastPage, pageLimit, paged, pageInto};
@@ -77,8 +80,19 @@ fn setup_page(x: Session, part: &[u8], out: &mut [u8]) -> Page
     }
 }
 
+// Plays the events of a part on the plain engine, or on the first one: they give the same.
+fn play_on(state: State, part: &[u8], out: &mut [u8], plain: bool) -> Played
+    ensures { λ r. ⌜ (r, now (out .exit)) ≡ played state (now (part .entry)) (now (out .entry)) ⌝ }
+{
+    if plain {
+        plain::play(state, part, out)
+    } else {
+        locking::play(state, part, out)
+    }
+}
+
 // Every other block's page: a line for each event.
-fn event_page(x: Session, part: &[u8], out: &mut [u8]) -> Page
+fn event_page(x: Session, part: &[u8], out: &mut [u8], plain: bool) -> Page
     requires { ⌜ (pageLimit ≤ length (now out)) × (eventCount (now part) ≤ mostEvents) × (x .index + 1 < wide) ⌝ }
     ensures { λ r. ⌜ ((r, now (out .exit)) ≡ paged (eventPage x (now (part .entry))) (now (out .entry)))
         × (r .len ≤ length (now (out .exit))) ⌝ }
@@ -86,7 +100,7 @@ fn event_page(x: Session, part: &[u8], out: &mut [u8]) -> Page
     let before = x.state;
     let setup = before.setup;
     let mut written = [0u8; Block::MOST_EVENTS as usize * Reply::SNAPSHOT];
-    let played = locking::play(before, part, &mut written);
+    let played = play_on(before, part, &mut written, plain);
     let state = played.state;
     let count = played.count;
     let len = put_events(out, &written, count, setup.processors, x.events);
@@ -105,7 +119,7 @@ fn event_page(x: Session, part: &[u8], out: &mut [u8]) -> Page
 }
 
 // A block's page; a refused block ends the output.
-fn block_page(x: Session, block: &[u8], out: &mut [u8]) -> Page
+fn block_page(x: Session, block: &[u8], out: &mut [u8], plain: bool) -> Page
     requires { ⌜ pageLimit ≤ length (now out) ⌝ }
     ensures { λ r. ⌜ ((r, now (out .exit))
         ≡ paged (blockPage x (now (block .entry)) (verdict (now (block .entry)) (x .index))) (now (out .entry)))
@@ -121,7 +135,7 @@ fn block_page(x: Session, block: &[u8], out: &mut [u8]) -> Page
     if index == 0 {
         setup_page(x, part, out)
     } else {
-        event_page(x, part, out)
+        event_page(x, part, out, plain)
     }
 }
 
@@ -141,8 +155,8 @@ fn last_page(x: Session, out: &mut [u8]) -> Page
 }
 
 // The page of what was read: a block, or nothing at the input's end; once the output is over, it is empty. A buffer
-// that is too short is refused with 36.
-pub fn next_page(x: Session, read: &[u8], out: &mut [u8]) -> Page
+// that is too short is refused with 36. `plain` says which engine plays the events; the page is the same.
+pub fn next_page(x: Session, read: &[u8], out: &mut [u8], plain: bool) -> Page
     ensures { λ r. ⌜ ((r, now (out .exit)) ≡ pageInto x (now (read .entry)) (now (out .entry)))
         × (r .len ≤ length (now (out .exit))) ⌝ }
 {
@@ -163,6 +177,6 @@ pub fn next_page(x: Session, read: &[u8], out: &mut [u8]) -> Page
     if read.len() == 0 {
         last_page(x, out)
     } else {
-        block_page(x, read, out)
+        block_page(x, read, out, plain)
     }
 }

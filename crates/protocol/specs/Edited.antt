@@ -10,7 +10,10 @@ use Rattle.input.specs.declared.Event.{Event}
 use Rattle.numbers.specs.Limits.{nobody}
 use Rattle.protocol.specs.Words.{holder, len}
 use Rattle.protocol.specs.Locks.{openOfKind, opens, enqueues, closes, frees, passes, arriveEdit, finishEdit}
+use Rattle.protocol.specs.Refusals.{stepOf, judge}
+use Rattle.protocol.specs.Events.{charged}
 use Rattle.protocol.specs.declared.State.{State}
+use Rattle.protocol.specs.declared.Reply.{Reply}
 
 -- t requests r: the request is open at once, or t is enqueued
 unfoldable pub requestEdit : Setup → ℕ → ℕ → State → State
@@ -36,3 +39,9 @@ edited c e s =
     else if e .kind is asking then requestEdit c (e .task) (e .resource) s
     else if e .kind is completion then completeEdit c (e .task) (e .resource) s
     else s
+
+-- the answer to an event, and the state after it but for links and placements, which are as they were
+unfoldable pub unplaced : State → Event → Reply
+unplaced s e =
+    if judge s e is 0 then record { answer = 0; state = edited (s .setup) e (charged (stepOf s e) s) }
+    else record { answer = judge s e; state = s }

@@ -9,3 +9,5 @@ pub mod Waits
 pub mod Laws
 pub mod Testing
 pub mod Sample
+pub mod SameJobs
+pub mod Equations

@@ -2,6 +2,7 @@
 use Prim.Native.Nat.{ℕ, zero, suc, _+_, _-_, _*_, _≤_, _<_}
 use mathlib.Core.Path.{_≡_, refl, sym, ap, _∙_}
 use mathlib.Core.List.{List, [], _∷_, _++_, append-nil}
+use borrow.Author.Tests.{le-leb, lt-leb}
 use native.Mathlib.Nat.{add-zero, add-suc, suc-add}
 use native.Mathlib.Numerals.{add-one}
 use native.Mathlib.Omega.{arith}
@@ -10,7 +11,7 @@ use lib.Seq.{take-suc, length-take-le}
 use Rattle.numbers.specs.Limits.{mostProcessors}
 use Rattle.processors.specs.Words.{link, runs}
 use Rattle.processors.specs.declared.Processors.{Processors}
-use Rattle.states.specs.Writing.{places, snapshotOf, written}
+use Rattle.states.specs.Writing.{places, snapshotOf, written, putAt}
 
 -- ---- a text written into a buffer
 pub written-long : (bytes : List ℕ) (at : ℕ) (text : List ℕ) → length (written bytes at text) ≡ length bytes
@@ -35,6 +36,21 @@ written-turn bytes at text i h =
     let w : i ≤ length text = omega arith in
     let n : length (take i text) ≡ i = length-take-le i text w in
     rw (add-one i, take-suc text i 0 h) (rw n at (sym (written-more bytes at (take i text) (getD text i 0))))
+
+-- a text put where there is room for it, and where there is not
+pub put-whole : (bytes : List ℕ) (at : ℕ) (text : List ℕ) → at + length text ≤ length bytes → (at + length text, written bytes at text) ≡ putAt bytes at text
+unfolding putAt
+put-whole bytes at text h = rw (le-leb (at + length text) (length bytes) h)
+
+pub put-none : (bytes : List ℕ) (at : ℕ) (text : List ℕ) → length bytes < at + length text → (at, bytes) ≡ putAt bytes at text
+unfolding putAt
+put-none bytes at text h = rw (lt-leb (at + length text) (length bytes) h)
+
+pub put-room : (bytes : List ℕ) (at : ℕ) (text : List ℕ) (r : ℕ) (after : List ℕ) → (r, after) ≡ putAt bytes at text → at + length text ≤ length bytes
+    → (r ≡ at + length text) × (after ≡ written bytes at text)
+put-room bytes at text r after h room =
+    let e = h ∙ sym (put-whole bytes at text room) in
+    (ap (λ (p : ℕ × List ℕ). p .0) e, ap (λ (p : ℕ × List ℕ). p .1) e)
 
 -- ---- a line built of the processors
 places-long : (p : Processors) (k : ℕ) → length (places p k) ≡ 2 * k

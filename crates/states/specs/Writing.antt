@@ -1,10 +1,12 @@
 -- The snapshot that is written of an event into a lent buffer: its answer, the links and the placements.
 use Prim.Native.Nat.{ℕ, zero, suc, _+_, _*_}
 use mathlib.Core.List.{List, [], _∷_, _++_}
-use lib.ListN.{set}
+use lib.Dec.{leb}
+use lib.ListN.{length, set}
 use Rattle.numbers.specs.Limits.{mostProcessors}
 use Rattle.processors.specs.Words.{link, runs}
 use Rattle.processors.specs.declared.Processors.{Processors}
+use Rattle.search.specs.Words.{if_then_else_}
 
 -- the bytes of a snapshot: the answer, and for each processor the linked and the running task
 abbrev pub snapshotSize : ℕ
@@ -23,3 +25,8 @@ snapshotOf answer p = answer ∷ places p mostProcessors
 unfoldable pub written : List ℕ → ℕ → List ℕ → List ℕ
 written bytes at [] = bytes
 written bytes at (x ∷ text) = written (set bytes at x) (suc at) text
+
+-- a text written from place `at` on if there is room for all of it, and the next place; without room nothing is written
+unfoldable pub putAt : List ℕ → ℕ → List ℕ → ℕ × List ℕ
+putAt bytes at text =
+    if leb (at + length text) (length bytes) then (at + length text, written bytes at text) else (at, bytes)

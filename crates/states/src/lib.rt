@@ -4,6 +4,7 @@ mod beginning;
 mod lookups;
 mod reading;
 mod records;
+mod snapshots;
 mod standings;
 
 pub use beginning::begin;
@@ -25,6 +26,7 @@ pub use records::no_group;
 pub use records::no_task;
 pub use records::task_at;
 pub use records::with_standing;
+pub use snapshots::put_snapshot;
 pub use standings::asked_of;
 pub use standings::situation_of;
 pub use standings::stand_of;

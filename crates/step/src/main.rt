@@ -7,6 +7,9 @@ use libc::STDOUT_FILENO;
 use pages::Page;
 use pages::Session;
 
+// The argument that asks for the plain engine.
+const PLAIN: [u8; 7] = *b"--plain";
+
 // The session after a block, and whether the program's work ends there.
 struct Taken {
     session: Session,
@@ -33,7 +36,7 @@ fn write_page(text: &[u8], session: Session) -> bool {
 
 // Reads the next block, writes its page, and returns the session after it. A short block is the last one, so the byte
 // that `is_unreadable` reads after it belongs to no other block.
-fn take_block(session: Session, block: &mut [u8], out: &mut [u8]) -> Taken {
+fn take_block(session: Session, block: &mut [u8], out: &mut [u8], plain: bool) -> Taken {
     let got = io::read_full(STDIN_FILENO, block);
     if got < block.len() && is_unreadable() {
         io::write_all(STDERR_FILENO, b"not read\n");
@@ -42,7 +45,7 @@ fn take_block(session: Session, block: &mut [u8], out: &mut [u8]) -> Taken {
             over: true,
         };
     }
-    let page = pages::next_page(session, &block[..got], out);
+    let page = pages::next_page(session, &block[..got], out, plain);
     let len = page.len;
     let next = page.session;
     Taken {
@@ -51,7 +54,19 @@ fn take_block(session: Session, block: &mut [u8], out: &mut [u8]) -> Taken {
     }
 }
 
+// Whether the plain engine is asked for: the program's first argument is `--plain`.
+fn is_plain_asked() -> bool {
+    let mut word = [0u8; 8];
+    let got = os::arg(1, &mut word);
+    let mut same = got == PLAIN.len();
+    for i in 0..PLAIN.len() {
+        same = same & (word[i] == PLAIN[i]);
+    }
+    same
+}
+
 fn main() {
+    let plain = is_plain_asked();
     let mut block = [0u8; Block::SIZE];
     let mut out = [0u8; Page::LIMIT];
     let mut session = pages::begin();
@@ -59,7 +74,7 @@ fn main() {
     // One block more than a file may have, and the input's end.
     let mut left = Block::LAST_INDEX + 3;
     while left > 0 && !over {
-        let taken = take_block(session, &mut block, &mut out);
+        let taken = take_block(session, &mut block, &mut out, plain);
         let next = taken.session;
         session = next;
         over = taken.over;

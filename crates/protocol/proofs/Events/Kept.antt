@@ -153,13 +153,15 @@ module _ (c : Setup) (G : Grouped c) (s : State) (S : Steady c s) (t : ℕ) wher
     pub arrive-steady : Steady c (onTask t (arriving (s .clock) due) s)
     arrive-steady = stood-steady come come-none come-in come-view refl refl (stands-locks c s _ t nobody (S .locks) come-view (omega arith) come-none (λ _. t-task))
 
+    pub arrive-joins : Joins (jobs c s) (jobs c (onTask t (arriving (s .clock) due) s)) t
+    arrive-joins = comes-jobs c G s (onTask t come s) t nobody (S .locks) come-view (arrive-steady .locks) (stands-own s (S .sized) t come-in come-none come) come-in (omega arith) gone
+        (stands-stand s (S .sized) t come-in come-none come)
+
     pub arrive-placed : (pick : Prefers) → Rests c s → Rests c (arrives pick c t (onTask t (arriving (s .clock) due) s))
     unfolding arrives
     arrive-placed pick P =
         let s′ = onTask t come s in
-        rw (with-jobs c s′ (linking (s .processors) (jobs c s′) t (pick s′ t)))
-        (arriving-law (s .processors) (jobs c s) (jobs c s′) P t
-        (comes-jobs c G s s′ t nobody (S .locks) come-view (arrive-steady .locks) (stands-own s (S .sized) t come-in come-none come) come-in (omega arith) gone (stands-stand s (S .sized) t come-in come-none come)) (pick s′ t))
+        rw (with-jobs c s′ (linking (s .processors) (jobs c s′) t (pick s′ t))) (arriving-law (s .processors) (jobs c s) (jobs c s′) P t arrive-joins (pick s′ t))
 
   -- ---- a finish
   module _ (A : Acts s t) (none : depth s t ≡ 0) where
@@ -363,7 +365,8 @@ module _ (c : Setup) (G : Grouped c) (s : State) (S : Steady c s) (t : ℕ) wher
           pass-short : kind c r ≡ short → Alike (jobs c f) (jobs c (passes g f))
           pass-short k = passed-short c G f freed-sized freed-blank g (g-in (newest .0) .0) freed-locks (freed .holds) n (freed .long ∙ some) (G .alike r (newest .0) ∙ k)
 
-          pass-long : kind c r ≡ long → Joins (jobs c f) (jobs c (passes g f)) (nextAt f g)
+          pub pass-long : kind c r ≡ long
+              → let f = frees (groupOf c r) (closes t s) in Joins (jobs c f) (jobs c (passes (groupOf c r) f)) (nextAt f (groupOf c r))
           pass-long k = passed-long c G f freed-sized freed-blank g (g-in (newest .0) .0) freed-locks (freed .holds) n (freed .long ∙ some) (G .alike r (newest .0) ∙ k)
 
         -- ---- the processors

@@ -34,7 +34,7 @@ use Rattle.protocol.specs.Events.{Prefers, cold, arrives, leaves, become
 use Rattle.protocol.specs.declared.State.{State}
 use Rattle.protocol.proofs.Sound.Statements.{Grouped, Times, Steady, Sound, Acts, Asks, Ends, SameTask}
 use Rattle.protocol.proofs.Sound.Begin.{accepted-grouped}
-use Rattle.protocol.proofs.Events.Branches.{kind-by, request-by, complete-by}
+use Rattle.protocol.proofs.Events.Branches.{kind-both, request-by, complete-by}
 use Rattle.protocol.proofs.Events.Situations.{unhindered}
 use Rattle.protocol.proofs.Events.Edited.{Does, step-does, by-edit}
 use Rattle.protocol.proofs.Jobs.Modes.{mode-runs}
@@ -188,6 +188,18 @@ module _ (s : State) (e : Event) (Q : Sound s) (ok : judge s e ≡ 0) where
       record { acts = acts-of (omega arith); left = depth s t - 1; some = omega (arith, same .deep, row25 k .0); newest = same .requested _ ∙ row25 k .1 }
 
   -- ---- kind by kind
+  -- tasks and groups alone, beside the whole event
+  pub step-both : (pick : Prefers) (P : State → State → Type 0)
+      → (e .kind ≡ arrival → P (arriveEdit (s .setup) (e .task) (charged (stepOf s e) s)) (arriveEvent pick (s .setup) (e .task) (charged (stepOf s e) s)))
+      → (e .kind ≡ finish → P (finishEdit (e .task) (charged (stepOf s e) s)) (finishEvent (s .setup) (e .task) (charged (stepOf s e) s)))
+      → (e .kind ≡ asking → P (requestEdit (s .setup) (e .task) (e .resource) (charged (stepOf s e) s)) (requestEvent (s .setup) (e .task) (e .resource) (charged (stepOf s e) s)))
+      → (e .kind ≡ completion → P (completeEdit (s .setup) (e .task) (e .resource) (charged (stepOf s e) s)) (completeEvent pick (s .setup) (e .task) (e .resource) (charged (stepOf s e) s)))
+      → (e .kind ≡ passing → P (charged (stepOf s e) s) (charged (stepOf s e) s))
+      → P (edited (s .setup) e (charged (stepOf s e) s)) (stepBy pick s e .state)
+  unfolding stepBy act edited
+  step-both pick P comes goes asks ends passes = rw (eq-eqb (judge s e) 0 ok) (kind-both P (e .kind) _ _ _ _ _ _ _ _ _ _ event-kinds comes goes asks ends passes)
+
+  -- the whole event
   pub step-by : (pick : Prefers) (P : State → Type 0)
       → (e .kind ≡ arrival → P (arriveEvent pick (s .setup) (e .task) (charged (stepOf s e) s)))
       → (e .kind ≡ finish → P (finishEvent (s .setup) (e .task) (charged (stepOf s e) s)))
@@ -195,10 +207,9 @@ module _ (s : State) (e : Event) (Q : Sound s) (ok : judge s e ≡ 0) where
       → (e .kind ≡ completion → P (completeEvent pick (s .setup) (e .task) (e .resource) (charged (stepOf s e) s)))
       → (e .kind ≡ passing → P (charged (stepOf s e) s))
       → P (stepBy pick s e .state)
-  unfolding stepBy act
-  step-by pick P comes goes asks ends passes = rw (eq-eqb (judge s e) 0 ok) (kind-by P (e .kind) _ _ _ _ _ event-kinds comes goes asks ends passes)
+  step-by pick P = step-both pick (λ _ x. P x)
 
-  -- and of tasks and groups alone
+  -- and tasks and groups alone
   pub edited-by : (P : State → Type 0)
       → (e .kind ≡ arrival → P (arriveEdit (s .setup) (e .task) (charged (stepOf s e) s)))
       → (e .kind ≡ finish → P (finishEdit (e .task) (charged (stepOf s e) s)))
@@ -206,8 +217,7 @@ module _ (s : State) (e : Event) (Q : Sound s) (ok : judge s e ≡ 0) where
       → (e .kind ≡ completion → P (completeEdit (s .setup) (e .task) (e .resource) (charged (stepOf s e) s)))
       → (e .kind ≡ passing → P (charged (stepOf s e) s))
       → P (edited (s .setup) e (charged (stepOf s e) s))
-  unfolding edited
-  edited-by P comes goes asks ends passes = kind-by P (e .kind) _ _ _ _ _ event-kinds comes goes asks ends passes
+  edited-by P = step-both cold (λ x _. P x)
 
   t-in : (arrival ≤ e .kind) × (e .kind ≤ completion) → t < length (s₁ .tasks)
   t-in k = omega (arith, row11 k, grouped .few-tasks, steady-of .sized .tasks)

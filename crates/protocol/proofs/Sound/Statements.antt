@@ -106,7 +106,7 @@ pub record Sound (s : State) : Type 0 where
   pub steady : Steady (s .setup) s
   pub placed : Placed (s .processors) (jobs (s .setup) s)
 
--- ---- what an accepted event has shown: t runs, and is not spinning (18 to 20)
+-- ---- what an accepted event has shown: t runs, and is not spinning (18, 26, 19 and 20)
 pub record Acts (s : State) (t : ℕ) : Type 0 where
   pub on : runOf (s .processors) t < mostProcessors
   pub act : stand s t ≡ active

@@ -8,10 +8,13 @@ use Rattle.step.proofs.main.Statement.{statement}
 use Rattle.step.proofs.main.Tie as tie
 
 abbrev Inv-loop : tie.InvT-loop
-Inv-loop block₀ out₀ session₀ over₀ left₀ block out session over left = (length block ≡ blockSize) × (length out ≡ mostEvents * lineLimit)
+Inv-loop plain block₀ out₀ session₀ over₀ left₀ block out session over left = (length block ≡ blockSize) × (length out ≡ mostEvents * lineLimit)
 
 abbrev μ-loop : tie.MeasureT-loop
-μ-loop block₀ out₀ session₀ over₀ left₀ block out session over left = left
+μ-loop plain block₀ out₀ session₀ over₀ left₀ block out session over left = left
+
+is-plain-asked-requires : tie.Need-is-plain-asked-requires Inv-loop μ-loop
+is-plain-asked-requires c κs = search needs
 
 begin-requires : tie.Need-begin-requires Inv-loop μ-loop
 begin-requires c κs = search needs
@@ -52,6 +55,7 @@ main-spec =
     (tie.spec
     Inv-loop
     μ-loop
+    is-plain-asked-requires
     begin-requires
     add-left
     loop-holds

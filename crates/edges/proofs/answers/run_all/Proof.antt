@@ -9,8 +9,8 @@ Inv-loop busy which₀ which = Unit {0}
 abbrev μ-loop : tie.MeasureT-loop
 μ-loop busy which₀ which = 34 - which
 
-busy-requires : tie.Need-busy-requires Inv-loop μ-loop
-busy-requires c κs = search needs
+busy-plain-requires : tie.Need-busy-plain-requires Inv-loop μ-loop
+busy-plain-requires c κs = search needs
 
 loop-holds : tie.Need-loop-holds Inv-loop μ-loop
 loop-holds c = search needs
@@ -39,7 +39,7 @@ run-all-spec =
     (tie.spec
     Inv-loop
     μ-loop
-    busy-requires
+    busy-plain-requires
     loop-holds
     hostile-requires
     tell-state-requires

@@ -12,6 +12,12 @@ abbrev μ-loop : tie.MeasureT-loop
 begin-requires : tie.Need-begin-requires Inv-loop μ-loop
 begin-requires c κs = search needs
 
+none-requires : tie.Need-none-requires Inv-loop μ-loop
+none-requires c κs = search needs
+
+begin-requires-2 : tie.Need-begin-requires-2 Inv-loop μ-loop
+begin-requires-2 c κs = search needs
+
 add-turns : tie.Need-add-turns Inv-loop μ-loop
 add-turns c = search needs
 
@@ -36,6 +42,9 @@ loop-again c = search needs
 tell-again-requires : tie.Need-tell-again-requires Inv-loop μ-loop
 tell-again-requires c κs = search needs
 
+tell-requires : tie.Need-tell-requires Inv-loop μ-loop
+tell-requires c κs = search needs
+
 returns : tie.Need-returns Inv-loop μ-loop
 returns c = search needs
 
@@ -46,6 +55,8 @@ run-file-spec =
     Inv-loop
     μ-loop
     begin-requires
+    none-requires
+    begin-requires-2
     add-turns
     loop-holds
     take-block-of-requires
@@ -54,4 +65,5 @@ run-file-spec =
     loop-less
     loop-again
     tell-again-requires
+    tell-requires
     returns)

@@ -18,29 +18,17 @@ part-block-end c = ⊎-elim (λ x. omega arith) (λ x. omega arith) (c .before .
 read-full-requires : tie.Need-read-full-requires
 read-full-requires c κs = search needs
 
-sub-count-again : tie.Need-sub-count-again
-sub-count-again c = search needs
+sub-go-on : tie.Need-sub-go-on
+sub-go-on c = search needs
 
-part-count-again-start : tie.Need-part-count-again-start
-part-count-again-start c = search needs
+part-go-on-start : tie.Need-part-go-on-start
+part-go-on-start c = search needs
 
-part-count-again-end : tie.Need-part-count-again-end
-part-count-again-end c = simp length-append (omega (arith, c .before .before .read-full .ensures))
+part-go-on-end : tie.Need-part-go-on-end
+part-go-on-end c = simp length-append (omega (arith, c .before .before .read-full .ensures))
 
-count-again-requires : tie.Need-count-again-requires
-count-again-requires c κs = search needs
-
-sub-write-page : tie.Need-sub-write-page
-sub-write-page c = search needs
-
-part-write-page-start : tie.Need-part-write-page-start
-part-write-page-start c = search needs
-
-part-write-page-end : tie.Need-part-write-page-end
-part-write-page-end c = simp length-append (omega (arith, c .before .before .before .before .before .read-full .ensures))
-
-write-page-requires : tie.Need-write-page-requires
-write-page-requires c κs = search needs
+go-on-requires : tie.Need-go-on-requires
+go-on-requires c κs = search needs
 
 returns : tie.Need-returns
 returns c = search needs
@@ -53,12 +41,8 @@ take-block-of-spec =
     part-block-start
     part-block-end
     read-full-requires
-    sub-count-again
-    part-count-again-start
-    part-count-again-end
-    count-again-requires
-    sub-write-page
-    part-write-page-start
-    part-write-page-end
-    write-page-requires
+    sub-go-on
+    part-go-on-start
+    part-go-on-end
+    go-on-requires
     returns)

@@ -25,7 +25,8 @@ use Rattle.protocol.specs.declared.State.{State}
 use Rattle.protocol.proofs.Sound.Reflect.{Shaped, sound-of-test}
 use Rattle.protocol.proofs.Events.Step.{grouped}
 use Rattle.states.proofs.Tables.{task-read, group-read}
-use Rattle.states.specs.Writing.{snapshotSize, snapshotOf}
+use Rattle.states.specs.Writing.{snapshotSize, snapshotOf, written, putAt}
+use Rattle.states.proofs.Writing.{put-room}
 use Rattle.soundness.specs.declared.Tested.{Tested}
 use Rattle.locking.specs.Edits.{editing, handing}
 use Rattle.locking.specs.Keeping.{Keeps}
@@ -301,10 +302,22 @@ snapshot-of-requires : tie.Need-snapshot-of-requires Inv-loop μ-loop
 snapshot-of-requires c κs = search needs
 
 put-snapshot-requires : tie.Need-put-snapshot-requires Inv-loop μ-loop
-put-snapshot-requires c κs = rw ((c .before .before .before .before .before .before .before .before .loop) .inv .1, (c .before .before .before .before .before .before .before .before .loop) .inv .3) (room-along ((c .before .before .before .before .before .before .before .before .before .before .before .before .before .before .before .before .before .before .before .before .before .before .before) .args .state) ((c .before .before .before .before .before .before .before .before .before .before .before .before .before .before .before .before .before .before .before .before .before .before .before) .args .part .now) ((c .before .before .before .before .before .before .before .before .before .before .before .before .before .before .before .before .before .before .before .before .before .before .before) .args .out .now) ((c .before .before .before .before .before .before .before .before .loop) .i) (omega (arith, (c .before .before .before .before .before .before .before .loop-test) .taken, (c .before .before .before .before .before .before .before .before .before .before .before .before .before .before .before .before .before .before .before .before .before .before .before) .pre .1)))
+put-snapshot-requires c κs = search needs
+
+-- there is room for the snapshot, so it is written
+is-put : (c : tie.After-snapshot-of Inv-loop μ-loop) {r : ℕ} {after : List ℕ}
+    → let o = (c .before .before .before .before .before .before .before .before .loop) in
+    (r, after) ≡ putAt (o .out) (o .at) ((c .snapshot-of) .result) → (r ≡ o .at + snapshotSize) × (after ≡ written (o .out) (o .at) ((c .snapshot-of) .result))
+is-put c {r} {after} e =
+    let o = (c .before .before .before .before .before .before .before .before .loop) in
+    let start = (c .before .before .before .before .before .before .before .before .before .before .before .before .before .before .before .before .before .before .before .before .before .before .before) in
+    let room : o .at + snapshotSize ≤ length (o .out) = rw (o .inv .1, o .inv .3) (room-along (start .args .state) (start .args .part .now) (start .args .out .now) (o .i) (omega (arith, (c .before .before .before .before .before .before .before .loop-test) .taken, start .pre .1))) in
+    let n : length ((c .snapshot-of) .result) ≡ snapshotSize = omega arith in
+    let put = put-room (o .out) (o .at) ((c .snapshot-of) .result) r after e (omega (arith, room, n)) in
+    (omega (arith, put .0, n), put .1)
 
 add-i : tie.Need-add-i Inv-loop μ-loop
-add-i c = search needs
+add-i c = search (needs, is-put (c .before .before .before) ((c .before .before .put-snapshot) .ensures) .0)
 
 loop-less : tie.Need-loop-less Inv-loop μ-loop
 loop-less c = search (needs, (c .before .before .before .before .before .before .before .before .before .before .loop-test) .taken)
@@ -318,9 +331,9 @@ loop-again c =
     let replied : step s e .state ≡ step s (eventIn ((c .before .before .before .before .before .before .before .before .before .before .before .before .before .before .before .before .before .before .before .before .before .before .before .before .before .before) .args .part .now) (o .i)) .state = ap (λ (x : Event). step s x .state) ((c .before .before .before .before .before .before .before .before .before .event-at) .ensures) in
     let said : (c .before .before .before .before .before .before .judge-parts) .result ≡ step s (eventIn ((c .before .before .before .before .before .before .before .before .before .before .before .before .before .before .before .before .before .before .before .before .before .before .before .before .before .before) .args .part .now) (o .i)) .answer = answered (c .before .before .before .before .before) ∙ sym (step-answer s e) ∙ ap (λ (x : Event). step s x .answer) ((c .before .before .before .before .before .before .before .before .before .event-at) .ensures) in (
       omega (arith, (c .before .before .before .before .before .before .before .before .before .before .loop-test) .taken),
-      omega (arith, (c .before .before .put-snapshot) .ensures .0, o .inv .1),
+      omega (arith, is-put (c .before .before .before) ((c .before .before .put-snapshot) .ensures) .0, o .inv .1),
       subst (λ (x : State). Keeps x ((c .before .before .before .before .before .if2) .clock) ((c .before .before .before .before .before .if2) .tasks) ((c .before .before .before .before .before .if2) .groups) ((c .before .before .before .before .before .if2) .p) ((c .before .before .before .before .before .if2) .totals) ((c .before .before .before .before .before .if2) .kept .own) ((c .before .before .before .before .before .if2) .kept .modes) ((c .before .before .before .before .before .if2) .kept .stands)) (played-turn ((c .before .before .before .before .before .before .before .before .before .before .before .before .before .before .before .before .before .before .before .before .before .before .before .before .before .before) .args .state) ((c .before .before .before .before .before .before .before .before .before .before .before .before .before .before .before .before .before .before .before .before .before .before .before .before .before .before) .args .part .now) (o .i) (step s e .state) replied) K,
-      (rw (o .inv .1, o .inv .3) at ((c .before .before .put-snapshot) .ensures .1)) ∙ buffer-turn ((c .before .before .before .before .before .before .before .before .before .before .before .before .before .before .before .before .before .before .before .before .before .before .before .before .before .before) .args .state) ((c .before .before .before .before .before .before .before .before .before .before .before .before .before .before .before .before .before .before .before .before .before .before .before .before .before .before) .args .part .now) ((c .before .before .before .before .before .before .before .before .before .before .before .before .before .before .before .before .before .before .before .before .before .before .before .before .before .before) .args .out .now) (o .i) ((c .before .before .before .before .before .before .judge-parts) .result) (step s e .state) ((c .before .before .before .snapshot-of) .result) said replied ((c .before .before .before .snapshot-of) .ensures ∙ ap (snapshotOf ((c .before .before .before .before .before .before .judge-parts) .result)) (K .placed)),
+      (rw (o .inv .1, o .inv .3) at (is-put (c .before .before .before) ((c .before .before .put-snapshot) .ensures) .1)) ∙ buffer-turn ((c .before .before .before .before .before .before .before .before .before .before .before .before .before .before .before .before .before .before .before .before .before .before .before .before .before .before) .args .state) ((c .before .before .before .before .before .before .before .before .before .before .before .before .before .before .before .before .before .before .before .before .before .before .before .before .before .before) .args .part .now) ((c .before .before .before .before .before .before .before .before .before .before .before .before .before .before .before .before .before .before .before .before .before .before .before .before .before .before) .args .out .now) (o .i) ((c .before .before .before .before .before .before .judge-parts) .result) (step s e .state) ((c .before .before .before .snapshot-of) .result) said replied ((c .before .before .before .snapshot-of) .ensures ∙ ap (snapshotOf ((c .before .before .before .before .before .before .judge-parts) .result)) (K .placed)),
       ranks-go-on (c .before .before .before .before .before),
     )
 

@@ -1,0 +1,4 @@
+pub mod Orders
+pub mod Engine
+pub mod Agreement
+pub mod Reading
