@@ -29,8 +29,8 @@ find_toolchain() {
 }
 
 # Runs a program that was linked with the toolchain's C library.
-run_program() { # FILE
-    ${emulator:+"$emulator"} "$loader" --library-path "$tools/lib" "$1"
+run_program() { # FILE [ARGUMENT]
+    ${emulator:+"$emulator"} "$loader" --library-path "$tools/lib" "$@"
 }
 
 # ---- building ----

@@ -15,6 +15,7 @@ use crate::reporting::print_number;
 use input::Event;
 use libc::STDOUT_FILENO;
 use lines::Line;
+use locking::Played;
 use pages::Page;
 use pages::Session;
 use plain::Order;
@@ -33,9 +34,18 @@ fn begin_row(which: u64, word: &[u8]) {
     io::write_all(STDOUT_FILENO, word);
 }
 
+// Prints the answers to both events played, how many they were, and whether the state is as before; that ends the row.
+fn end_events(state: State, played: Played, written: [u8; 2 * Reply::SNAPSHOT]) {
+    let after = played.state;
+    print_answer(written[0]);
+    print_answer(written[Reply::SNAPSHOT]);
+    print_number(played.count as u64);
+    print_flag(is_same(state, after));
+    end_row();
+}
+
 // Prints whether the state is the busy one, which shows that the comparison sees each number; the first event judged,
-// and stepped, and whether the state is as before; both events played, how many they were, and whether the state is
-// as before.
+// and stepped, and whether the state is as before; and both events played.
 fn tell_events(which: u64, state: State, busy: State) {
     let e = Event {
         kind: Event::PASSING,
@@ -52,16 +62,11 @@ fn tell_events(which: u64, state: State, busy: State) {
     print_flag(is_same(state, after));
     let mut written = [LENT; 2 * Reply::SNAPSHOT];
     let played = locking::play(state, &TWO_EVENTS, &mut written);
-    let after = played.state;
-    print_answer(written[0]);
-    print_answer(written[Reply::SNAPSHOT]);
-    print_number(played.count as u64);
-    print_flag(is_same(state, after));
-    end_row();
+    end_events(state, played, written);
 }
 
-// The first event stepped by the plain engine, in the busy session's order, and whether the state is as before; and
-// both events played by it, as above.
+// Prints the first event stepped by the plain engine, in the busy session's order, and whether the state is as before;
+// and both events played by it.
 fn tell_plain(which: u64, state: State, order: Order) {
     let e = Event {
         kind: Event::PASSING,
@@ -76,12 +81,7 @@ fn tell_plain(which: u64, state: State, order: Order) {
     print_flag(is_same(state, session.state));
     let mut written = [LENT; 2 * Reply::SNAPSHOT];
     let played = plain::play(state, &TWO_EVENTS, &mut written);
-    let after = played.state;
-    print_answer(written[0]);
-    print_answer(written[Reply::SNAPSHOT]);
-    print_number(played.count as u64);
-    print_flag(is_same(state, after));
-    end_row();
+    end_events(state, played, written);
 }
 
 // How many runnable jobs the scheduler is given.

@@ -16,7 +16,6 @@ use Rattle.locking.proofs.Along.{room-along, played-turn, buffer-turn}
 use Rattle.plain.specs.Orders.{orderOf, isOrdered}
 use Rattle.plain.specs.Engine.{plainStep}
 use Rattle.plain.specs.Reading.{orderIn}
-use Rattle.plain.specs.declared.Order.{Order}
 use Rattle.plain.specs.declared.Plain.{Plain}
 use Rattle.plain.specs.declared.PlainReply.{PlainReply}
 use Rattle.plain.proofs.Sorted.{same-self}

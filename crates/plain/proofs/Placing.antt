@@ -1,5 +1,5 @@
 -- The links and placements that an accepted event leaves are those read off the order. Assumes nothing.
-use Prim.Native.Nat.{ℕ, suc, _+_, _-_, _<_, _≤_}
+use Prim.Native.Nat.{ℕ, suc, _-_, _<_, _≤_}
 use mathlib.Core.Path.{_≡_, refl, sym, ap, subst, _∙_}
 use mathlib.Core.Bool.{true, false}
 use mathlib.Core.List.{List}
@@ -13,7 +13,7 @@ use Rattle.search.specs.Table.{table}
 use Rattle.search.proofs.Tables.{table-at, table-length}
 use Rattle.numbers.specs.Limits.{mostTasks, mostResources, nobody}
 use Rattle.queue.specs.Waiting.{withoutFirst}
-use Rattle.processors.specs.Modes.{off, preemptable}
+use Rattle.processors.specs.Modes.{off}
 use Rattle.processors.specs.Words.{jobsFrom, rankOf, modeOf}
 use Rattle.processors.specs.declared.Jobs.{Jobs}
 use Rattle.processors.specs.declared.Processors.{Processors}
@@ -26,11 +26,11 @@ use Rattle.input.specs.Words.{kind}
 use Rattle.input.specs.declared.Setup.{Setup}
 use Rattle.input.specs.declared.Event.{Event}
 use Rattle.setups.specs.Naming.{groupOf}
-use Rattle.protocol.specs.Records.{noGroup, withProcessors}
+use Rattle.protocol.specs.Records.{noGroup}
 use Rattle.numbers.specs.Limits.{mostRequests}
 use Rattle.protocol.specs.declared.Group.{Group}
-use Rattle.protocol.specs.Words.{depth, request, absent, active, spinning, suspended, stand, task, group, holder, len, asked, waiter}
-use Rattle.protocol.specs.Ranks.{jobs, shortOpen}
+use Rattle.protocol.specs.Words.{depth, request, absent, suspended, stand, task, group, holder, len, asked, waiter}
+use Rattle.protocol.specs.Ranks.{jobs}
 use Rattle.protocol.specs.Refusals.{stepOf, judge}
 use Rattle.protocol.specs.Locks.{openOfKind, opens, enqueues, closes, frees, nextAt, dequeues, passes, arriveEdit, finishEdit}
 use Rattle.protocol.specs.Edited.{requestEdit, completeEdit, edited}
@@ -40,9 +40,9 @@ use Rattle.protocol.proofs.Sound.Statements.{Grouped, Steady, Sound, Asks, Ends
 use Rattle.protocol.proofs.Jobs.Modes.{mode-runs, mode-active, jobs-apart}
 use Rattle.protocol.proofs.Edits.Equations.{opens-view, closes-view, frees-view, frees-sized, with-jobs}
 use Rattle.protocol.proofs.Events.Branches.{request-both, complete-both}
-use Rattle.protocol.proofs.Events.Kept.{kind-some, kind-none, arrive-joins, queued, first-stands, pass-long, restored}
+use Rattle.protocol.proofs.Events.Kept.{kind-none, arrive-joins, queued, first-stands, pass-long, restored}
 use Rattle.protocol.proofs.Events.Times.{charged-placed}
-use Rattle.protocol.proofs.Events.Step.{row11, row16, grouped, steady-of, same-of, acts-of, asks-of, ends-of, step-both, done}
+use Rattle.protocol.proofs.Events.Step.{row11, row16, grouped, steady-of, same-of, asks-of, ends-of, step-both, done}
 use Rattle.priorities.proofs.Ruled.{modes-ruled}
 use Rattle.plain.specs.Orders.{taskAt, orderFrom, orderOf}
 use Rattle.plain.specs.Reading.{modesIn, arrivingIn, leavingIn, givingWayIn, asleepIn, requestedIn, completedIn, placedIn}

@@ -5,16 +5,14 @@ use mathlib.Core.Bool.{Bool, true, false, _&&_}
 use mathlib.Core.List.{[]}
 use mathlib.Core.Logic.{_≢_, _⊎_, inl, inr, ⊎-elim}
 use native.Mathlib.Omega.{arith}
-use native.Mathlib.Nat.{le-refl, le-trans, le-of-lt, not-suc-le-zero}
+use native.Mathlib.Nat.{le-refl, le-of-lt, not-suc-le-zero}
 use native.Mathlib.Decide.{ℕ-discrete, decLt}
 use lib.Dec.{leb, ltb}
-use lib.ListN.{length-set}
 use lib.Seq.{set-out}
-use borrow.Author.Tests.{lt-ltb, le-ltb, le-leb, lt-leb, leb-true, ltb-true, ltb-false, eq-eqb, ne-eqb, eqb-true, eqb-false}
+use borrow.Author.Tests.{lt-ltb, le-ltb, le-leb, lt-leb, leb-true, ltb-true, eq-eqb, ne-eqb, eqb-true, eqb-false}
 use Rattle.search.specs.Words.{if_then_else_, _is_}
 use Rattle.search.proofs.Tests.{and-left, and-right, never}
 use Rattle.search.proofs.Firsts.{First, first-law}
-use Rattle.search.proofs.Bests.{best-law}
 use Rattle.numbers.specs.Limits.{mostProcessors, mostTasks, nobody}
 use Rattle.processors.specs.Words.{jobsFrom, rankOf, modeOf, link, runs, linkOf, runOf, isRunnable, isHigher, isUnlinked, placeOn, linkOn}
 use Rattle.scheduler.specs.Arriving.{lowestFree, lowestLinked, canPreempt, displacing, arriving}

@@ -1,6 +1,5 @@
 -- What the code reads off an order, and the moves by it. `modes` are those of the tasks' jobs.
 use Prim.Native.Nat.{ℕ, zero, suc}
-use mathlib.Core.Bool.{_&&_}
 use mathlib.Core.List.{List, []}
 use lib.Dec.{leb, ltb}
 use lib.ListN.{getD, set}
@@ -9,7 +8,7 @@ use Rattle.search.specs.First.{first}
 use Rattle.search.specs.Table.{table}
 use Rattle.numbers.specs.Limits.{mostProcessors, mostTasks, nobody}
 use Rattle.processors.specs.Modes.{off}
-use Rattle.processors.specs.Words.{jobsFrom, link, linkOf, runOf, isUnlinked, isAwaited, placeOn, linkOn}
+use Rattle.processors.specs.Words.{jobsFrom, link, linkOf, runOf, isUnlinked, placeOn, linkOn}
 use Rattle.processors.specs.declared.Processors.{Processors}
 use Rattle.scheduler.specs.Arriving.{lowestFree, canPreempt}
 use Rattle.scheduler.specs.Leaving.{awaitedElse, becomingPreemptable}
@@ -17,7 +16,7 @@ use Rattle.input.specs.Kinds.{short, arrival, finish, request as asking, comple
 use Rattle.input.specs.Words.{kind}
 use Rattle.input.specs.declared.Event.{Event}
 use Rattle.setups.specs.Naming.{groupOf}
-use Rattle.protocol.specs.Records.{noTask, noGroup}
+use Rattle.protocol.specs.Records.{noTask}
 use Rattle.protocol.specs.Words.{suspended, standingNo, task, group}
 use Rattle.protocol.specs.declared.State.{State}
 use Rattle.priorities.specs.Bounds.{modeIn, jobsIn}

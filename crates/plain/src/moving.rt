@@ -6,6 +6,7 @@ use numbers::Limit;
 use processors::Jobs;
 use processors::Modes;
 use processors::Processors;
+use processors::is_awaited;
 use processors::is_unlinked;
 use processors::link_at;
 use processors::link_of;
@@ -15,7 +16,6 @@ use processors::place_on;
 use processors::run_of;
 use processors::runs_at;
 ghost use mathlib.Core.Path.{_≡_};
-ghost use Rattle.processors.specs.Words.{isAwaited};
 ghost use Rattle.scheduler.specs.Arriving.{lowestFree};
 ghost use Rattle.scheduler.specs.Leaving.{becomingPreemptable};
 ghost use Rattle.plain.specs.Reading.{placeIn, nextIn, lowestIn, arrivingIn, displacingIn, fillingIn, leavingIn, givingWayIn};
@@ -93,14 +93,6 @@ pub fn arrive(order: Order, modes: &Modes, p: Processors, t: u8) -> Processors
     } else {
         displace(order, modes, p, t, lowest_linked(order, p))
     }
-}
-
-// Processor `k` is linked to a job that it does not run.
-fn is_awaited(p: Processors, k: usize) -> bool
-    ensures { λ r. ⌜ r ≡ isAwaited p k ⌝ }
-{
-    let linked = link_at(p, k);
-    (linked != Limit::NOBODY) & (linked != runs_at(p, k))
 }
 
 // The job of `t` becomes preemptable: if its processor is linked to another job, that one runs instead.

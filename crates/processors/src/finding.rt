@@ -9,7 +9,7 @@ ghost use mathlib.Core.Path.{_≡_};
 ghost use mathlib.Core.List.{[]};
 ghost use lib.ListN.{getD};
 ghost use Rattle.numbers.specs.Limits.{nobody};
-ghost use Rattle.processors.specs.Words.{jobsFrom, rankOf, modeOf, isHigher, link, runs, placeOf, linkOf, runOf, isUnlinked};
+ghost use Rattle.processors.specs.Words.{jobsFrom, rankOf, modeOf, isHigher, link, runs, placeOf, linkOf, runOf, isUnlinked, isAwaited};
 
 // The rank of the job of `t`; 0 past the last task.
 fn rank_of(ranks: &Ranks, t: u8) -> u64
@@ -99,4 +99,12 @@ pub fn is_unlinked(p: Processors, modes: &Modes, t: u8) -> bool
     } else {
         false
     }
+}
+
+// Processor `k` is linked to a job that it does not run.
+pub fn is_awaited(p: Processors, k: usize) -> bool
+    ensures { λ r. ⌜ r ≡ isAwaited p k ⌝ }
+{
+    let linked = link_at(p, k);
+    (linked != Limit::NOBODY) & (linked != runs_at(p, k))
 }

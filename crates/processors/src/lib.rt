@@ -5,6 +5,7 @@ mod finding;
 pub use changing::link_on;
 pub use changing::none_linked;
 pub use changing::place_on;
+pub use finding::is_awaited;
 pub use finding::is_higher;
 pub use finding::is_unlinked;
 pub use finding::link_at;

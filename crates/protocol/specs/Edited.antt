@@ -10,8 +10,8 @@ use Rattle.input.specs.declared.Event.{Event}
 use Rattle.numbers.specs.Limits.{nobody}
 use Rattle.protocol.specs.Words.{holder, len}
 use Rattle.protocol.specs.Locks.{openOfKind, opens, enqueues, closes, frees, passes, arriveEdit, finishEdit}
-use Rattle.protocol.specs.Refusals.{stepOf, judge}
-use Rattle.protocol.specs.Events.{charged}
+use Rattle.protocol.specs.Refusals.{stepOf}
+use Rattle.protocol.specs.Events.{charged, replied}
 use Rattle.protocol.specs.declared.State.{State}
 use Rattle.protocol.specs.declared.Reply.{Reply}
 
@@ -42,6 +42,4 @@ edited c e s =
 
 -- the answer to an event, and the state after it but for links and placements, which are as they were
 unfoldable pub unplaced : State → Event → Reply
-unplaced s e =
-    if judge s e is 0 then record { answer = 0; state = edited (s .setup) e (charged (stepOf s e) s) }
-    else record { answer = judge s e; state = s }
+unplaced s e = replied s e (edited (s .setup) e (charged (stepOf s e) s))

@@ -67,6 +67,10 @@ charged n s =
     (λ t. if stand s t isn't absent then counting (totalFor s t) n (task s t) else task s t)
     mostTasks) s)
 
+-- the answer to an event, and the state after it: `after` if it is accepted. A refused event hands back the same state.
+abbrev pub replied : State → Event → State → Reply
+replied s e after = if judge s e is 0 then record { answer = 0; state = after } else record { answer = judge s e; state = s }
+
 -- ---- arrive or resume, and a whole step
 -- the processor suggested to a task in a state
 abbrev pub Prefers : Type 0
@@ -107,11 +111,9 @@ module _ (pick : Prefers) where
       else if e .kind is completion then completeEvent c (e .task) (e .resource) s
       else s
 
-  -- The answer to an event, and the state after it. A refused event hands back the same state.
+  -- the answer to an event, and the state after it
   unfoldable pub stepBy : State → Event → Reply
-  stepBy s e =
-      if judge s e is 0 then record { answer = 0; state = act (s .setup) e (charged (stepOf s e) s) }
-      else record { answer = judge s e; state = s }
+  stepBy s e = replied s e (act (s .setup) e (charged (stepOf s e) s))
 
 -- the step of the rules: no processor is suggested
 unfoldable pub step : State → Event → Reply

@@ -4,28 +4,20 @@ use processors::Jobs;
 use processors::Modes;
 use processors::Processors;
 use processors::Ranks;
+use processors::is_awaited;
 use processors::is_higher;
 use processors::is_unlinked;
 use processors::link_at;
 use processors::link_on;
 use processors::place_on;
 use processors::run_of;
-use processors::runs_at;
 ghost use mathlib.Core.Path.{_≡_};
 ghost use Prim.Native.Nat.{min};
 ghost use mathlib.Core.List.{[]};
 ghost use Rattle.search.specs.Best.{better};
 ghost use Rattle.numbers.specs.Limits.{mostTasks};
-ghost use Rattle.processors.specs.Words.{jobsFrom, firstModes, isUnlinked, isHigher, isAwaited};
+ghost use Rattle.processors.specs.Words.{jobsFrom, firstModes, isUnlinked, isHigher};
 ghost use Rattle.scheduler.specs.Leaving.{becomingPreemptable, nextTask, filling, refilling, leavingFrom, leaving, givingWay};
-
-// Processor `k` is linked to a job that it does not run.
-fn is_awaited(p: Processors, k: usize) -> bool
-    ensures { λ r. ⌜ r ≡ isAwaited p k ⌝ }
-{
-    let t = link_at(p, k);
-    (t != Limit::NOBODY) & (t != runs_at(p, k))
-}
 
 // The job of `t` became preemptable: if the processor that it runs on is linked to another job, that one runs
 // instead.

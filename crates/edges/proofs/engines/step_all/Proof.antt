@@ -1,7 +1,6 @@
 use Prim.{Unit}
 use Prim.Native.Nat.{_-_}
 use borrow.Author.Needs.{needs}
-use native.Mathlib.Omega.{arith}
 use Rattle.edges.proofs.engines.step_all.Statement.{statement}
 use Rattle.edges.proofs.engines.step_all.Tie as tie
 

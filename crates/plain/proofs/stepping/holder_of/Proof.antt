@@ -1,29 +1,22 @@
-use mathlib.Core.Path.{_≡_, refl, sym, ap, _∙_}
-use native.Mathlib.Omega.{arith}
+-- Past the table nobody holds. Assumes nothing.
+use mathlib.Core.Path.{sym, ap}
 use borrow.Author.Needs.{needs}
-use borrow.Author.Tests.{eq-eqb, ne-eqb}
 use lib.ListN.{List·getD-eq-default}
 use Rattle.protocol.specs.Records.{noGroup}
 use Rattle.protocol.specs.declared.Group.{Group}
 use Rattle.states.proofs.Tables.{group-read}
 use Rattle.plain.proofs.stepping.holder_of.Statement.{statement}
 use Rattle.plain.proofs.stepping.holder_of.Tie as tie
-use Rattle.plain.proofs.stepping.holder_of.Reads as reads
-use Rattle.plain.proofs.stepping.holder_of.Lts as lts
 
--- src/stepping.rt:48:21
 mul-group : tie.Need-mul-group
 mul-group c = search needs
 
--- src/stepping.rt:48:21
 array-copy-out-group : tie.Need-array-copy-out-group
 array-copy-out-group c = search needs
 
--- src/stepping.rt:43:1
 returns : tie.Need-returns
 returns c = ap (λ (x : Group). x .holder) (group-read ((c .before .before .args) .t1) ((c .before .before .args) .g) (search needs))
 
--- src/stepping.rt:43:1
 returns-2 : tie.Need-returns-2
 returns-2 c = sym (ap (λ (x : Group). x .holder) (List·getD-eq-default ((c .before .args) .t1) noGroup (search needs)))
 

@@ -1,59 +1,41 @@
-use mathlib.Core.Path.{_≡_, refl, sym, ap, _∙_}
-use native.Mathlib.Omega.{arith}
+-- `placed` follows `placedIn`. Assumes nothing.
 use borrow.Author.Needs.{needs}
 use borrow.Author.Tests.{eq-eqb, ne-eqb}
 use Rattle.plain.specs.Reading.{placedIn}
 use Rattle.plain.proofs.stepping.placed.Statement.{statement}
 use Rattle.plain.proofs.stepping.placed.Tie as tie
-use Rattle.plain.proofs.stepping.placed.Reads as reads
-use Rattle.plain.proofs.stepping.placed.Lts as lts
-use Rattle.plain.proofs.moving.arrive.Reads as arrive-reads
-use Rattle.plain.proofs.moving.leave.Reads as leave-reads
-use Rattle.plain.proofs.stepping.completed.Reads as completed-reads
-use Rattle.plain.proofs.stepping.requested.Reads as requested-reads
-use Rattle.priorities.proofs.modes_of.Reads as modes-of-reads
 
--- src/stepping.rt:114:17
 modes-of-requires : tie.Need-modes-of-requires
 modes-of-requires c κs = search needs
 
--- src/stepping.rt:116:9
 arrive-requires : tie.Need-arrive-requires
 arrive-requires c κs = search needs
 
--- src/stepping.rt:118:9
 leave-requires : tie.Need-leave-requires
 leave-requires c κs = search needs
 
--- src/stepping.rt:120:9
 requested-requires : tie.Need-requested-requires
 requested-requires c κs = search needs
 
--- src/stepping.rt:122:9
 completed-requires : tie.Need-completed-requires
 completed-requires c κs = search needs
 
--- src/stepping.rt:108:1
 returns : tie.Need-returns
 unfolding placedIn
 returns c = rw (← (c .before .before .before .before .modes-of) .ensures, eq-eqb _ _ ((c .before .before .if1) .taken)) ((c .arrive) .ensures)
 
--- src/stepping.rt:108:1
 returns-2 : tie.Need-returns-2
 unfolding placedIn
 returns-2 c = rw (← (c .before .before .before .before .before .before .modes-of) .ensures, ne-eqb _ _ ((c .before .before .before .before .if1) .left), eq-eqb _ _ ((c .before .before .if2) .taken)) ((c .leave) .ensures)
 
--- src/stepping.rt:108:1
 returns-3 : tie.Need-returns-3
 unfolding placedIn
 returns-3 c = rw (← (c .before .before .before .before .before .before .before .before .modes-of) .ensures, ne-eqb _ _ ((c .before .before .before .before .before .before .if1) .left), ne-eqb _ _ ((c .before .before .before .before .if2) .left), eq-eqb _ _ ((c .before .before .if3) .taken)) ((c .requested) .ensures)
 
--- src/stepping.rt:108:1
 returns-4 : tie.Need-returns-4
 unfolding placedIn
 returns-4 c = rw (← (c .before .before .before .before .before .before .before .before .before .modes-of) .ensures, ne-eqb _ _ ((c .before .before .before .before .before .before .before .if1) .left), ne-eqb _ _ ((c .before .before .before .before .before .if2) .left), ne-eqb _ _ ((c .before .before .before .if3) .left), eq-eqb _ _ ((c .before .if4) .taken)) ((c .completed) .ensures)
 
--- src/stepping.rt:108:1
 returns-5 : tie.Need-returns-5
 unfolding placedIn
 returns-5 c = rw (← (c .before .before .before .before .before .before .before .before .modes-of) .ensures, ne-eqb _ _ ((c .before .before .before .before .before .before .if1) .left), ne-eqb _ _ ((c .before .before .before .before .if2) .left), ne-eqb _ _ ((c .before .before .if3) .left), ne-eqb _ _ ((c .if4) .left))

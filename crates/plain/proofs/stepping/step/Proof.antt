@@ -1,4 +1,4 @@
-use mathlib.Core.Path.{_≡_, refl, sym, ap, _∙_}
+-- What the code returns is what the rules give, in order. Assumes nothing.
 use native.Mathlib.Omega.{arith}
 use lib.ListN.{length-map}
 use borrow.Author.Needs.{needs}
@@ -7,47 +7,31 @@ use Rattle.locking.proofs.Shapes.{shaped, periods-short}
 use Rattle.plain.proofs.Sessions.{step-refuses, step-accepts}
 use Rattle.plain.proofs.stepping.step.Statement.{statement}
 use Rattle.plain.proofs.stepping.step.Tie as tie
-use Rattle.plain.proofs.stepping.step.Reads as reads
-use Rattle.plain.proofs.stepping.step.Lts as lts
-use Rattle.locking.proofs.unplaced.Reads as unplaced-reads
-use Rattle.plain.proofs.ordering.is_same.Reads as is-same-reads
-use Rattle.plain.proofs.ordering.order_of.Reads as order-of-reads
-use Rattle.plain.proofs.stepping.placed.Reads as placed-reads
-use Rattle.plain.proofs.stepping.with_processors.Reads as with-processors-reads
 
--- src/stepping.rt:145:24
 order-of-requires : tie.Need-order-of-requires
 order-of-requires c κs = search needs
 
--- src/stepping.rt:145:9
 is-same-requires : tie.Need-is-same-requires
 is-same-requires c κs = search needs
 
--- src/stepping.rt:146:9
 returns : tie.Need-returns
 returns c = let x = (c .before .before .before .before .before .before .args) .x in let g = (c .before .before .before .before .before .before) .good .0 in let s = g .1 .1 .0 in step-refuses x ((c .before .before .before .before .before .before .args) .e) (simp length-map at (g .1 .1 .1 .0 .1 .1 .0 .1 .0 .1)) (shaped (x .state) _ s) (periods-short (x .state) _ s) 9 (rw (← (c .before .before .order-of) .ensures, ← (c .before .is-same) .ensures, not-true ((c .before .is-same) .result) ((c .if1) .taken))) (λ q. omega (arith, q))
 
--- src/stepping.rt:151:9
 unplaced-requires : tie.Need-unplaced-requires
 unplaced-requires c κs = search needs
 
--- src/stepping.rt:153:9
 returns-2 : tie.Need-returns-2
 returns-2 c = let x = (c .before .before .before .before .before .before .before .before .before .args) .x in let g = (c .before .before .before .before .before .before .before .before .before) .good .0 in let s = g .1 .1 .0 in step-refuses x ((c .before .before .before .before .before .before .before .before .before .args) .e) (simp length-map at (g .1 .1 .1 .0 .1 .1 .0 .1 .0 .1)) (shaped (x .state) _ s) (periods-short (x .state) _ s) _ (rw (← (c .before .before .before .before .before .order-of) .ensures, ← (c .before .before .before .before .is-same) .ensures, not-false ((c .before .before .before .before .is-same) .result) ((c .before .before .before .if1) .left), ← (c .before .before .unplaced) .ensures)) ((c .if2) .taken)
 
--- src/stepping.rt:159:9
 order-of-requires-2 : tie.Need-order-of-requires-2
 order-of-requires-2 c κs = search needs
 
--- src/stepping.rt:160:39
 placed-requires : tie.Need-placed-requires
 placed-requires c κs = search needs
 
--- src/stepping.rt:160:9
 with-processors-requires : tie.Need-with-processors-requires
 with-processors-requires c κs = search needs
 
--- src/stepping.rt:139:1
 returns-3 : tie.Need-returns-3
 returns-3 c = let x = (c .before .before .before .before .before .before .before .before .before .before .before .before .before .args) .x in let g = (c .before .before .before .before .before .before .before .before .before .before .before .before .before) .good .0 in let s = g .1 .1 .0 in rw ((c .with-processors) .ensures, (c .before .placed) .ensures, (c .before .before .order-of2) .ensures, (c .before .before .before .before .before .before .unplaced) .ensures) (step-accepts x ((c .before .before .before .before .before .before .before .before .before .before .before .before .before .args) .e) (simp length-map at (g .1 .1 .1 .0 .1 .1 .0 .1 .0 .1)) (shaped (x .state) _ s) (periods-short (x .state) _ s) ((c .before .before .before .before .before .before .unplaced) .result .answer) (rw (← (c .before .before .before .before .before .before .before .before .before .order-of) .ensures, ← (c .before .before .before .before .before .before .before .before .is-same) .ensures, not-false ((c .before .before .before .before .before .before .before .before .is-same) .result) ((c .before .before .before .before .before .before .before .if1) .left), ← (c .before .before .before .before .before .before .unplaced) .ensures)) ((c .before .before .before .before .if2) .left))
 

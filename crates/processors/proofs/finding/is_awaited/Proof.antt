@@ -1,7 +1,6 @@
--- `is_awaited` tests as `isAwaited` does. Assumes nothing.
 use borrow.Author.Needs.{needs}
-use Rattle.plain.proofs.moving.is_awaited.Statement.{statement}
-use Rattle.plain.proofs.moving.is_awaited.Tie as tie
+use Rattle.processors.proofs.finding.is_awaited.Statement.{statement}
+use Rattle.processors.proofs.finding.is_awaited.Tie as tie
 
 link-at-requires : tie.Need-link-at-requires
 link-at-requires c κs = search needs
