@@ -159,9 +159,20 @@ def try_step(folder, large):
     expect([STEP], 0, '', LINES, PRINTED.read_bytes())
     shutil.copy(PRINTED, folder / '-good')
     expect([STEP, '--', '-good'], 0, '', LINES, cwd=folder)
+    # The plain engine, of a file that is named and of standard input; its option comes first, and once.
+    expect([STEP, '--plain', PRINTED], 0, '', LINES)
+    expect([STEP, '--plain'], 0, '', LINES, PRINTED.read_bytes())
+    expect([STEP, '--plain', '--', '-good'], 0, '', LINES, cwd=folder)
+    expect([STEP, '--plain', '--plain'], 2, 'step: unknown option --plain; see --help\n')
+    expect([STEP, PRINTED, '--plain'], 2, 'step: one file at most; see --help\n')
+    shutil.copy(PRINTED, folder / '--plain')
+    expect([STEP, '--', '--plain'], 0, '', LINES, cwd=folder)
+    check('step and step --plain print the same of a large file', run([STEP, '--plain', large]).stdout, run([STEP, large]).stdout)
     for name, (data, line, _) in files().items():
         (folder / name).write_bytes(data)
         done = run([STEP, folder / name])
+        check(f'step --plain on {name}: the same', [(again.returncode, again.stdout, again.stderr)
+              for again in [run([STEP, '--plain', folder / name])]], [(done.returncode, done.stdout, done.stderr)])
         said = f'step: {folder / name}: a block or the set-up was refused: see the last line\n'
         check(f'step on {name}: exit status', done.returncode, 1)
         check(f'step on {name}: last line', done.stdout.decode().splitlines()[-1:], [line])
