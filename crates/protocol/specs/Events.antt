@@ -69,7 +69,8 @@ charged n s =
 
 -- the answer to an event, and the state after it: `after` if it is accepted. A refused event hands back the same state.
 abbrev pub replied : State → Event → State → Reply
-replied s e after = if judge s e is 0 then record { answer = 0; state = after } else record { answer = judge s e; state = s }
+replied s e after =
+    if judge s e is 0 then record { answer = 0; state = after } else record { answer = judge s e; state = s }
 
 -- ---- arrive or resume, and a whole step
 -- the processor suggested to a task in a state
