@@ -39,7 +39,7 @@ unfolding plainBegin
 engines-agree c es = record {
   setup = refl;
   answers = λ n. ap (λ (x : PlainReply). x .answer) (reply-is c es n);
-  lines = λ n answer. ap (λ (x : PlainReply). snapshotOf answer (x .session .state .processors)) (reply-is c es n);
+  lines = λ n. ap (λ (x : PlainReply). snapshotOf (x .answer) (x .session .state .processors)) (reply-is c es n);
   totals = λ t. ap (λ (x : Plain). task (x .state) t .totals) (begun-run c es es);
   states = ap (λ (x : Plain). x .state) (begun-run c es es);
 }

@@ -18,13 +18,12 @@ use Rattle.plain.specs.declared.PlainReply.{PlainReply}
 abbrev pub plainReplyAt : Setup → List Event → ℕ → PlainReply
 plainReplyAt c es n = plainStep (plainRun (plainBegin c .session) (take n es)) (getD es n noEvent)
 
--- the set-up's answer, each event's answer, the line's links and placements, and each task's totals
+-- the set-up's answer; each event's answer, and the snapshot that its line is made of; each task's totals
 pub record EnginesAgree (c : Setup) (es : List Event) : Type 0 where
   pub setup : plainBegin c .answer ≡ begin c .answer
   pub answers : (n : ℕ) → plainReplyAt c es n .answer ≡ replyAt (begin c .state) es n .answer
-  pub lines : (n : ℕ) (answer : ℕ)
-      → snapshotOf answer (plainReplyAt c es n .session .state .processors)
-      ≡ snapshotOf answer (replyAt (begin c .state) es n .state .processors)
+  pub lines : (n : ℕ) → let r = plainReplyAt c es n in let r′ = replyAt (begin c .state) es n in
+      snapshotOf (r .answer) (r .session .state .processors) ≡ snapshotOf (r′ .answer) (r′ .state .processors)
   pub totals : (t : ℕ) → task (plainRun (plainBegin c .session) es .state) t .totals
       ≡ task (run (begin c .state) es) t .totals
   -- and all else that a state holds
