@@ -19,15 +19,16 @@ use Rattle.protocol.specs.Words.{lastClock, task, stand, absent, deadline, dept
 use Rattle.protocol.specs.Sound.{sound}
 use Rattle.protocol.specs.Refusals.{stepOf, eventRows, judge}
 use Rattle.protocol.specs.Locks.{nextAt}
-use Rattle.protocol.specs.Events.{charged, stepBy, step}
+use Rattle.protocol.specs.Events.{charged, replied, stepBy, step}
 use Rattle.protocol.specs.declared.State.{State}
+use Rattle.protocol.specs.declared.Reply.{Reply}
 use Rattle.protocol.proofs.Sound.Statements.{Sound}
 use Rattle.protocol.proofs.Sound.Reflect.{Shaped, sound-of-test}
 use Rattle.protocol.proofs.Events.Times.{charged-times}
 use Rattle.protocol.proofs.Events.Step.{event-kinds, row11, row12, grouped, steady-of, same-of, asks-of, ends-of}
 use Rattle.priorities.specs.Bounds.{isBounded}
 use Rattle.locking.specs.Acting.{CanPass, CanAct}
-use Rattle.locking.proofs.Bounded.{within-bounds}
+use Rattle.locking.proofs.Bounded.{times-bounded}
 
 pub unsound-judged : (s : State) (e : Event) → sound s ≡ false → judge s e ≡ 9
 unfolding judge eventRows
@@ -44,17 +45,28 @@ accepted-sound s e ok = go (sound s) refl
     go true h = h
     go false h = absurd (omega (arith, ok, unsound-judged s e h))
 
+-- ---- what is replied to an event, whatever state follows where it is accepted
+module _ (s : State) (e : Event) (after : State) where
+  pub replied-answer : replied s e after .answer ≡ judge s e
+  replied-answer = elim (ℕ-discrete (judge s e) 0) [
+    | yes x ↦ rw (eq-eqb (judge s e) 0 x, x)
+    | no x ↦ rw (ne-eqb (judge s e) 0 x)
+  ]
+
+  replied-refused : (judge s e ≡ 0 → ⊥) → replied s e after ≡ record { answer = judge s e; state = s }
+  replied-refused x = rw (ne-eqb (judge s e) 0 x)
+
 pub step-answer : (s : State) (e : Event) → step s e .answer ≡ judge s e
 unfolding step stepBy
-step-answer s e = elim (ℕ-discrete (judge s e) 0) [
-  | yes x ↦ rw (eq-eqb (judge s e) 0 x, x)
-  | no x ↦ rw (ne-eqb (judge s e) 0 x)
-]
+step-answer s e = replied-answer s e _
+
+pub step-refused : (s : State) (e : Event) → (judge s e ≡ 0 → ⊥) → step s e ≡ record { answer = judge s e; state = s }
+unfolding step stepBy
+step-refused s e x = replied-refused s e _ x
 
 -- a refused event leaves the state
 pub refused-stays : (s : State) (e : Event) → (judge s e ≡ 0 → ⊥) → step s e .state ≡ s
-unfolding step stepBy
-refused-stays s e x = rw (ne-eqb (judge s e) 0 x)
+refused-stays s e x = ap (λ (r : Reply). r .state) (step-refused s e x)
 
 -- no task of a sound state has more requests open than there may be
 pub few-open : (s : State) → Shaped s → sound s ≡ true → (t : ℕ) → task s t .depth ≤ mostRequests
@@ -82,10 +94,7 @@ module _ (s : State) (e : Event) (Q : Sound s) (ok : judge s e ≡ 0) where
   unfolding charged deadline
   charged-bounded short =
       let T = charged-times s (stepOf s e) (Q .steady .sized) (λ u. Q .steady .locks .tasks u .inside) room (Q .times) in
-      within-bounds s₁ (grouped s e Q ok .few-resources) (λ t l. elim (ℕ-discrete (stand s₁ t) absent) [
-        | yes x ↦ omega (arith, T .tasks t .undated x)
-        | no x ↦ let y = T .tasks t .pending x in omega (arith, y .1, T .tasks t .arrived (y .0) .1, T .clock, short t)
-      ])
+      times-bounded s₁ (grouped s e Q ok .few-resources) short T
 
   pub inside : e .task < mostTasks
   unfolding eventRows fieldsOf

@@ -21,7 +21,7 @@ use Rattle.input.specs.declared.Event.{Event}
 use Rattle.setups.specs.Refusals.{setupRefusal}
 use Rattle.setups.specs.Clearing.{cleared}
 use Rattle.protocol.specs.Records.{noTask, withProcessors}
-use Rattle.protocol.specs.Words.{absent, stand, deadline}
+use Rattle.protocol.specs.Words.{stand, deadline}
 use Rattle.protocol.specs.Sound.{sound}
 use Rattle.protocol.specs.Refusals.{stepOf, judge}
 use Rattle.protocol.specs.Edited.{edited, unplaced}
@@ -29,7 +29,7 @@ use Rattle.protocol.specs.Events.{cold, charged, stepBy, step, fresh, begin}
 use Rattle.protocol.specs.declared.Task.{Task}
 use Rattle.protocol.specs.declared.State.{State}
 use Rattle.protocol.specs.declared.Reply.{Reply}
-use Rattle.protocol.proofs.Sound.Statements.{Times, Sound}
+use Rattle.protocol.proofs.Sound.Statements.{Sound}
 use Rattle.protocol.proofs.Sound.Reflect.{Shaped, sound-of-test}
 use Rattle.protocol.proofs.Sound.Begin.{accepted-grouped}
 use Rattle.protocol.proofs.Edits.Equations.{with-jobs}
@@ -37,8 +37,8 @@ use Rattle.protocol.proofs.Events.Edited.{step-does}
 use Rattle.protocol.proofs.Events.Step.{grouped, done}
 use Rattle.priorities.specs.Bounds.{isBounded}
 use Rattle.priorities.proofs.Ruled.{jobs-ruled}
-use Rattle.locking.proofs.Bounded.{within-bounds}
-use Rattle.locking.proofs.Accepted.{unsound-judged}
+use Rattle.locking.proofs.Bounded.{within-bounds, times-bounded}
+use Rattle.locking.proofs.Accepted.{unsound-judged, replied-answer, step-refused}
 use Rattle.plain.specs.Orders.{orderFrom, orderOf, sameOrder, ordered, isOrdered}
 use Rattle.plain.specs.Engine.{plainReply, plainBegin, plainStep}
 use Rattle.plain.specs.Reading.{orderIn, placedIn}
@@ -48,10 +48,6 @@ use Rattle.plain.specs.declared.PlainReply.{PlainReply}
 use Rattle.plain.proofs.Sorted.{order-long, same-is, same-self}
 use Rattle.plain.proofs.Placing.{read-off}
 
-step-refused : (s : State) (e : Event) → judge s e ≢ 0 → step s e ≡ record { answer = judge s e; state = s }
-unfolding step stepBy
-step-refused s e d = rw (ne-eqb (judge s e) 0 d)
-
 -- ---- the order that the code computes is that of the state, where the ranks fit their type
 abbrev pub Short : Setup → Type 0
 Short c = (t : ℕ) → period c t < 65536
@@ -60,13 +56,6 @@ module _ (s : State) where
   order-ruled : length (s .tasks) ≡ mostTasks → isBounded s ≡ true → orderIn s ≡ orderOf s
   unfolding orderIn orderOf stand
   order-ruled long b = ap (λ (j : Jobs). orderFrom (j .ranks) (table (stand s) mostTasks)) (jobs-ruled s long b)
-
-  times-bounded : s .setup .resources ≤ mostResources → Short (s .setup) → Times s → isBounded s ≡ true
-  unfolding deadline
-  times-bounded few short T = within-bounds s few (λ t l. elim (ℕ-discrete (stand s t) absent) [
-    | yes x ↦ omega (arith, T .tasks t .undated x)
-    | no x ↦ let y = T .tasks t .pending x in omega (arith, y .1, T .tasks t .arrived (y .0) .1, T .clock, short t)
-  ])
 
   order-with : (p : Processors) → orderOf (withProcessors p s) ≡ orderOf s
   unfolding orderOf stand
@@ -111,10 +100,7 @@ module _ (x : Plain) (e : Event) (long : length (x .order .tasks) ≡ mostTasks)
   -- the answer of the rules, if the session is in order
   unplaced-answer : unplaced s e .answer ≡ judge s e
   unfolding unplaced
-  unplaced-answer = elim (ℕ-discrete (judge s e) 0) [
-    | yes q ↦ rw (eq-eqb (judge s e) 0 q, q)
-    | no q ↦ rw (ne-eqb (judge s e) 0 q)
-  ]
+  unplaced-answer = replied-answer s e _
 
   -- a session that is not sound
   unsound-step : sound s ≡ false → plainStep x e ≡ record { answer = notSound; session = x }
