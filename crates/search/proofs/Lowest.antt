@@ -6,7 +6,8 @@ use native.Mathlib.Omega.{arith}
 use native.Mathlib.Decide.{ℕ_discrete, dec_lt}
 use lib.Dec.{ltb}
 use borrow.Author.Tests.{not-true, ltb-false, eq-eqb, ne_eqb, le-ltb}
-use Rattle.search.specs.Words.{if◌then◌else◌, ◌is◌}
+use Rattle.std.specs.Prelude.{if◌then◌else◌}
+use Rattle.search.specs.Words.{◌is◌}
 use Rattle.search.specs.Below.{how_many}
 use Rattle.search.proofs.Pigeons.{count_into, count_onto, how_many_change}
 use Rattle.search.proofs.Tests.{tests}

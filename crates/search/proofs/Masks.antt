@@ -7,7 +7,7 @@ use native.Mathlib.Nat.{pow-suc, not-suc-le-zero, lt_of_lt_of_le}
 use native.Mathlib.Numerals.{add-one}
 use lib.Count.{ones, ones_step, count_trailing_zeros, under}
 use lib.Pow.{pow_mono}
-use Rattle.search.specs.Words.{if◌then◌else◌}
+use Rattle.std.specs.Prelude.{if◌then◌else◌}
 use Rattle.search.specs.First.{first, bit, mask}
 
 pub bit_small : (b : Bool) → bit b ≤ 1

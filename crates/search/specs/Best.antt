@@ -1,6 +1,6 @@
 -- The best of the numbers below a bound that pass a test, by a strict order.
-use Rattle.std.specs.Prelude.{ℕ, zero, suc, Bool}
-use Rattle.search.specs.Words.{if◌then◌else◌, ◌is◌}
+use Rattle.std.specs.Prelude.{ℕ, zero, suc, Bool, if◌then◌else◌}
+use Rattle.search.specs.Words.{◌is◌}
 
 -- the better of b, the best so far (`none` at first), and the next candidate k, which counts only if it passes
 unfoldable pub better : (ℕ → Bool) → (ℕ → ℕ → Bool) → ℕ → ℕ → ℕ → ℕ

@@ -1,6 +1,5 @@
 -- The first number that passes a test, and the mask of those that pass.
-use Rattle.std.specs.Prelude.{ℕ, zero, suc, ◌+◌, ◌*◌, Bool}
-use Rattle.search.specs.Words.{if◌then◌else◌}
+use Rattle.std.specs.Prelude.{ℕ, zero, suc, ◌+◌, ◌*◌, Bool, if◌then◌else◌}
 
 -- the first of the n numbers from k on that passes; k + n where none does
 unfoldable pub first : (ℕ → Bool) → ℕ → ℕ → ℕ

@@ -1,6 +1,7 @@
 // Searches over the indices below a bound, and tables: the definitions are in specs/, their laws in proofs/.
-ghost use Rattle.std.specs.Prelude.{◌≡◌};
-ghost use Rattle.search.specs.Words.{if◌then◌else◌};
+#![tactic(auto)]
+
+ghost use Rattle.std.specs.Prelude.{◌≡◌, if◌then◌else◌};
 
 // One turn of a loop that searches from the last index to the first: `here` where this index passes, else `behind`,
 // what the later indices gave. So the first index that passes is what remains.
