@@ -8,7 +8,8 @@ use mathlib.Core.List.{List, [], ◌∷◌}
 use mathlib.Core.Logic.{◌≢◌, ◌↔◌}
 use lib.ListN.{length, get_or}
 use borrow.Author.Tests.{eqb-true, eqb-false, not-true}
-use Rattle.search.specs.Words.{if◌then◌else◌, ◌is◌, ◌isn't◌}
+use Rattle.std.specs.Prelude.{if◌then◌else◌}
+use Rattle.search.specs.Words.{◌is◌, ◌isn't◌}
 use Rattle.numbers.specs.Rows.{Row, first_of}
 use Rattle.numbers.specs.Numbered.{no_row, is_numbered, is_missing, is_at_row, FirstAt, NoneApplies}
 use Rattle.search.proofs.Tests.{never, and_left, and_right}

@@ -1,6 +1,5 @@
 -- A list of refusals. Each row is a number and the test that gives it; the first row that applies decides.
-use Rattle.std.specs.Prelude.{ℕ, Bool, List, [], ◌∷◌}
-use Rattle.search.specs.Words.{if◌then◌else◌}
+use Rattle.std.specs.Prelude.{ℕ, Bool, List, [], ◌∷◌, if◌then◌else◌}
 
 infix 28 ◌when◌
 infixr 20 ◌otherwise◌

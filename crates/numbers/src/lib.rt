@@ -1,10 +1,11 @@
 // The numbers of a session: its limits, the mark for none, and the numbers handed back, each by name; and one row of
 // a list of refusals. Lists of refusals are defined in specs/, and their laws are in proofs/.
-ghost use Rattle.std.specs.Prelude.{◌≡◌};
-ghost use Rattle.search.specs.Words.{if◌then◌else◌};
+#![tactic(auto)]
+
+ghost use Rattle.std.specs.Prelude.{◌≡◌, if◌then◌else◌};
 
 // The limits. Each type that is bounded by one has it as an associated constant of its own.
-#[derive(Drop)]
+#[derive(Clone, Copy)]
 pub struct Limit {}
 
 impl Limit {
@@ -24,7 +25,7 @@ impl Limit {
 }
 
 // The numbers handed back; specs/Refusals says when each is given. Accepted is 0.
-#[derive(Drop)]
+#[derive(Clone, Copy)]
 pub struct Refusal {}
 
 impl Refusal {
