@@ -1,6 +1,6 @@
 -- A queue holds the waiting tasks in the order they asked.
-use Rattle.std.specs.Prelude.{ℕ, ◌+◌, ◌-◌, Bool, ◌&&◌, List, [], ◌∷◌, ◌++◌, get_or, set, take, drop, replicate, leb, ltb}
-use Rattle.search.specs.Words.{if◌then◌else◌, ◌is◌, ◌implies◌}
+use Rattle.std.specs.Prelude.{ℕ, ◌+◌, ◌-◌, Bool, ◌&&◌, List, [], ◌∷◌, ◌++◌, get_or, set, take, drop, replicate, leb, ltb, if◌then◌else◌}
+use Rattle.search.specs.Words.{◌is◌, ◌implies◌}
 use Rattle.search.specs.Below.{all_below}
 use Rattle.search.specs.First.{first}
 use Rattle.queue.specs.Limits.{capacity}

@@ -1,4 +1,6 @@
 // A queue of tasks: who waits, in the order they asked. Every function is defined for any content, tidy or not.
+#![tactic(auto)]
+
 ghost use Rattle.std.specs.Prelude.{◌≡◌, get_or};
 ghost use Rattle.numbers.specs.Limits.{nobody};
 ghost use Rattle.queue.specs.Waiting.{waiter, empty, appended, moved_up, without_first, place_of, is_clear, is_tidy};
@@ -6,7 +8,7 @@ ghost use Rattle.queue.specs.Waiting.{waiter, empty, appended, moved_up, without
 use numbers::Limit;
 
 // The first `len` places hold the waiting tasks, the others nobody.
-#[derive(Drop)]
+#[derive(Clone, Copy)]
 pub struct Queue {
     pub tasks: [u8; Queue::CAPACITY],
     pub len: usize,

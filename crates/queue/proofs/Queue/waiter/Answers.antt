@@ -5,23 +5,16 @@ use borrow.Author.Rules.{rules}
 use Rattle.numbers.specs.Limits.{nobody}
 use Rattle.queue.specs.Waiting.{waiting, waiter}
 use Rattle.queue.proofs.Lists.{take_past}
-use Rattle.queue.proofs.Queue.waiter.Statement.{statement}
-use Rattle.queue.proofs.Queue.waiter.Tie as tie
+use Rattle.queue.proofs.Queue.waiter.Goals as goal
 
-held-requires : tie.Need-held-requires
-held-requires c κs = search rules
-
-returns : tie.Need-returns
+pub returns-then-i-self : goal.returns-then-i-self
 unfolding waiter waiting
-returns c =
-    let a = c.before.before.before.before.args in
+returns-then-i-self c =
+    let a = c.args in
     c.held.ensures ∙ sym (get_or-take a.self.len a.self.tasks a.i nobody (search rules))
 
-returns-2 : tie.Need-returns-2
+pub returns-else-i-self : goal.returns-else-i-self
 unfolding waiter waiting
-returns-2 c =
-    let a = c.before.before.args in
+returns-else-i-self c =
+    let a = c.args in
     sym (take_past a.self.len a.self.tasks a.i nobody (search rules))
-
-pub waiter-spec : {M : Type 1} → statement M
-waiter-spec = tie.close (tie.spec held-requires returns returns-2)
