@@ -1,6 +1,6 @@
 -- The words of the rules for links and placements.
-use Rattle.std.specs.Prelude.{ℕ, Bool, ◌&&◌, List, leb, ltb, get_or, set, replicate}
-use Rattle.search.specs.Words.{if◌then◌else◌, ◌is◌, ◌isn't◌}
+use Rattle.std.specs.Prelude.{ℕ, Bool, ◌&&◌, List, leb, ltb, get_or, set, replicate, if◌then◌else◌}
+use Rattle.search.specs.Words.{◌is◌, ◌isn't◌}
 use Rattle.search.specs.First.{first}
 use Rattle.search.specs.Table.{table}
 use Rattle.numbers.specs.Limits.{most_processors, most_tasks, nobody}
@@ -46,15 +46,15 @@ link p k = get_or p.linked k nobody
 abbrev pub runs : Processors → ℕ → ℕ
 runs p k = get_or p.running k nobody
 
--- the first processor with t in a list of the processors' tasks; `mostProcessors` for none
+-- the first processor with t in a list of the processors' tasks; `most_processors` for none
 abbrev pub place_of : List ℕ → ℕ → ℕ
 place_of l t = first (λ k. get_or l k nobody is t) 0 most_processors
 
--- the processor that is linked to t; `mostProcessors` for none
+-- the processor that is linked to t; `most_processors` for none
 unfoldable pub link_of : Processors → ℕ → ℕ
 link_of p t = place_of p.linked t
 
--- the processor that runs t; `mostProcessors` for none
+-- the processor that runs t; `most_processors` for none
 unfoldable pub run_of : Processors → ℕ → ℕ
 run_of p t = place_of p.running t
 

@@ -90,7 +90,8 @@ pub fn run_of(p: Processors, t: u8) -> usize
 pub fn is_unlinked(p: Processors, modes: &Modes, t: u8) -> bool
     ensures { result ≡ is_unlinked p (jobs_from [] modes.now) t }
 {
-    if Jobs::PREEMPTABLE <= mode_of(modes, t) {
+    let runnable = Jobs::PREEMPTABLE <= mode_of(modes, t);
+    if runnable {
         Processors::LIMIT <= link_of(p, t)
     } else {
         false

@@ -1,4 +1,6 @@
 // Which tasks are linked and which run: the processors, and the rank and mode of each task's job.
+#![tactic(auto)]
+
 mod changing;
 mod finding;
 
@@ -9,7 +11,7 @@ pub use finding::{
 use numbers::Limit;
 
 // The task that each processor is linked to, and the task that it runs; both nobody from `count` on.
-#[derive(Drop)]
+#[derive(Clone, Copy)]
 pub struct Processors {
     pub count: usize,
     pub linked: [u8; Processors::LIMIT],
@@ -27,7 +29,7 @@ pub type Ranks = [u64; Jobs::LIMIT];
 pub type Modes = [u8; Jobs::LIMIT];
 
 // What the scheduler knows of each task's job: its rank, lower for a higher priority, and its mode.
-#[derive(Drop)]
+#[derive(Clone, Copy)]
 pub struct Jobs {
     pub ranks: Ranks,
     pub modes: Modes,
