@@ -4,7 +4,7 @@ use mathlib.Core.Path.{◌≡◌, refl}
 use mathlib.Core.Bool.{◌&&◌}
 use native.Mathlib.Omega.{arith}
 use lib.Dec.{ltb}
-use Rattle.search.specs.Words.{if◌then◌else◌}
+use Rattle.std.specs.Prelude.{if◌then◌else◌}
 use Rattle.search.specs.First.{first}
 use Rattle.numbers.specs.Limits.{most_processors, most_tasks, nobody}
 use Rattle.processors.specs.Words.{link, run_of, is_higher, place_on, link_on}

@@ -10,7 +10,8 @@ use native.Mathlib.Decide.{dec_lt}
 use lib.Dec.{ltb}
 use lib.ListN.{length, get_or, get_or-eq_default}
 use borrow.Author.Tests.{lt-ltb, le-ltb, le-leb, ltb-true, ltb-false, leb-true, eq-eqb, eqb-true, eqb-false}
-use Rattle.search.specs.Words.{if◌then◌else◌, ◌is◌}
+use Rattle.std.specs.Prelude.{if◌then◌else◌}
+use Rattle.search.specs.Words.{◌is◌}
 use Rattle.search.proofs.Tests.{and_left, and_right}
 use Rattle.search.proofs.Firsts.{first_law}
 use Rattle.search.proofs.Bests.{Best, best_law}

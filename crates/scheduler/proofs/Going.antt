@@ -2,12 +2,12 @@
 use Prim.Native.Nat.{ℕ, ◌<◌, ◌≤◌}
 use mathlib.Core.Path.{◌≡◌, refl, sym, ap, subst, ◌∙◌}
 use mathlib.Core.Bool.{Bool, true, false, ◌&&◌}
-use mathlib.Core.Logic.{◌≢◌, ◌⊎◌, inl, ⊎_elim}
+use mathlib.Core.Logic.{◌≢◌, inl, ⊎_elim}
 use native.Mathlib.Omega.{arith}
 use native.Mathlib.Decide.{ℕ_discrete, dec_lt}
 use lib.Dec.{ltb}
 use borrow.Author.Tests.{lt-ltb, eq-eqb, ne_eqb, ltb-true, ltb-false}
-use Rattle.search.specs.Words.{if◌then◌else◌}
+use Rattle.std.specs.Prelude.{if◌then◌else◌}
 use Rattle.search.proofs.Tests.{and_left, and_right}
 use Rattle.numbers.specs.Limits.{most_processors, most_tasks, nobody}
 use Rattle.processors.specs.Modes.{preemptable}

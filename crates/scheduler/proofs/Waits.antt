@@ -7,7 +7,7 @@ use native.Mathlib.Omega.{arith}
 use native.Mathlib.Decide.{dec_lt}
 use lib.Dec.{ltb}
 use borrow.Author.Tests.{lt-ltb, le-ltb, ltb-true}
-use Rattle.search.specs.Words.{if◌then◌else◌}
+use Rattle.std.specs.Prelude.{if◌then◌else◌}
 use Rattle.search.proofs.Tests.{and_left}
 use Rattle.numbers.specs.Limits.{most_processors, most_tasks, nobody}
 use Rattle.processors.specs.Words.{link, runs, run_of, is_higher, is_awaited, place_on, link_on}

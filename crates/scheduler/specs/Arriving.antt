@@ -1,6 +1,6 @@
 -- RULES.md, 'The scheduler's moves': arrive or resume.
-use Rattle.std.specs.Prelude.{ℕ, Bool, ◌&&◌, ltb}
-use Rattle.search.specs.Words.{if◌then◌else◌, ◌is◌}
+use Rattle.std.specs.Prelude.{ℕ, Bool, ◌&&◌, ltb, if◌then◌else◌}
+use Rattle.search.specs.Words.{◌is◌}
 use Rattle.search.specs.First.{first}
 use Rattle.search.specs.Best.{best}
 use Rattle.numbers.specs.Limits.{most_processors, nobody}
@@ -17,7 +17,7 @@ is_used p k = ltb k p.count
 abbrev pub is_free : Processors → ℕ → Bool
 is_free p k = is_used p k && link p k is nobody
 
--- the lowest-numbered unlinked processor, or `mostProcessors` where there is none
+-- the lowest-numbered unlinked processor, or `most_processors` where there is none
 unfoldable pub lowest_free : Processors → ℕ
 lowest_free p = first (is_free p) 0 most_processors
 
@@ -25,7 +25,7 @@ lowest_free p = first (is_free p) 0 most_processors
 abbrev pub links_lower : Processors → Jobs → ℕ → ℕ → Bool
 links_lower p j a b = is_higher j (link p b) (link p a)
 
--- the processor with the lowest-priority linked job, or `mostProcessors` where there is no processor
+-- the processor with the lowest-priority linked job, or `most_processors` where there is no processor
 unfoldable pub lowest_linked : Processors → Jobs → ℕ
 lowest_linked p j = best (is_used p) (links_lower p j) most_processors most_processors
 
@@ -41,12 +41,12 @@ displacing p j t k =
     if can_preempt p j k then place_on p k t else link_on p k t
     else p
 
--- If k is an unlinked processor, t is linked to it and runs there; with `mostProcessors` for k there is none.
+-- If k is an unlinked processor, t is linked to it and runs there; with `most_processors` for k there is none.
 unfoldable pub arriving_on : Processors → Jobs → ℕ → ℕ → Processors
 arriving_on p j t k = if ltb k most_processors then place_on p k t else displacing p j t (lowest_linked p j)
 
 -- the processor taken where k is suggested: k, if it is unlinked; else the lowest-numbered unlinked one, or
--- `mostProcessors`
+-- `most_processors`
 unfoldable pub taken : Processors → ℕ → ℕ
 taken p k = if ltb k most_processors && is_free p k then k else lowest_free p
 

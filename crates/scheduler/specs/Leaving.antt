@@ -1,6 +1,5 @@
 -- RULES.md, 'The scheduler's moves': become preemptable; finish or suspend; give way.
-use Rattle.std.specs.Prelude.{ℕ, ◌&&◌, ltb}
-use Rattle.search.specs.Words.{if◌then◌else◌}
+use Rattle.std.specs.Prelude.{ℕ, ◌&&◌, ltb, if◌then◌else◌}
 use Rattle.search.specs.Best.{best}
 use Rattle.numbers.specs.Limits.{most_processors, most_tasks, nobody}
 use Rattle.processors.specs.Words.{link, run_of, is_higher, is_unlinked, is_awaited, place_on, link_on}
@@ -16,12 +15,12 @@ awaited_else p k other = if is_awaited p k then place_on p k (link p k) else oth
 unfoldable pub becoming_preemptable : Processors → ℕ → Processors
 becoming_preemptable p t = if ltb (run_of p t) most_processors then awaited_else p (run_of p t) p else p
 
--- the highest-priority unlinked runnable job, or `mostTasks` where there is none
+-- the highest-priority unlinked runnable job, or `most_tasks` where there is none
 unfoldable pub next_task : Processors → Jobs → ℕ
 next_task p j = best (is_unlinked p j) (is_higher j) most_tasks most_tasks
 
 -- u is linked. If it runs on q, it is linked to q, and the job that was linked to q is linked to k and runs there. If
--- it is not running (q is `mostProcessors`), it is linked to k and runs there.
+-- it is not running (q is `most_processors`), it is linked to k and runs there.
 unfoldable pub filling : Processors → ℕ → ℕ → ℕ → Processors
 filling p k u q = if ltb q most_processors then place_on (link_on p q u) k (link p q) else place_on p k u
 

@@ -1,4 +1,6 @@
 // Links and placements of jobs on processors, by deadline order: the four moves. Knows nothing of resources.
+#![tactic(auto)]
+
 mod arriving;
 mod leaving;
 
