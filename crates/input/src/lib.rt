@@ -1,4 +1,6 @@
 // What a session is given: a set-up and events, by call or from bytes.
+#![tactic(auto)]
+
 mod events;
 mod reading;
 mod writing;
@@ -13,7 +15,7 @@ pub use writing::{event_bytes, high, low};
 
 // The counts, the starting clock, each task's period, each resource's kind, and the nesting pairs.
 // Places past a count are not read.
-#[derive(Drop)]
+#[derive(Clone, Copy)]
 pub struct Setup {
     pub processors: usize,
     pub tasks: usize,
@@ -69,7 +71,7 @@ impl Setup {
 }
 
 // An event: its kind, the task and the resource that it names, and the console's tick.
-#[derive(Drop)]
+#[derive(Clone, Copy)]
 pub struct Event {
     pub kind: u8,
     pub task: u8,
@@ -100,7 +102,7 @@ impl Event {
 }
 
 // Whether a kind of event uses the task, and the resource.
-#[derive(Drop)]
+#[derive(Clone, Copy)]
 pub struct Fields {
     pub task: bool,
     pub resource: bool,
