@@ -8,7 +8,8 @@ use mathlib.Core.List.{List}
 use lib.Dec.{ltb}
 use lib.ListN.{length, get_or}
 use borrow.Author.Tests.{ltb-true, ltb-false, lt-ltb, le-ltb}
-use Rattle.search.specs.Words.{if◌then◌else◌, ◌is◌}
+use Rattle.std.specs.Prelude.{if◌then◌else◌}
+use Rattle.search.specs.Words.{◌is◌}
 use Rattle.search.specs.Below.{any_below}
 use Rattle.numbers.specs.Refusals.{count_outside, period_zero, kind_unknown, pair_stray, long_in_short}
 use Rattle.numbers.proofs.Refusals.{row_same}

@@ -1,6 +1,6 @@
 -- RULES.md, 'Set-up': places past a count are not read; here they are 0.
-use Rattle.std.specs.Prelude.{ℕ, Bool, ◌&&◌, List, leb, ltb, get_or}
-use Rattle.search.specs.Words.{if◌then◌else◌, ◌is◌, ◌implies◌}
+use Rattle.std.specs.Prelude.{ℕ, Bool, ◌&&◌, List, leb, ltb, get_or, if◌then◌else◌}
+use Rattle.search.specs.Words.{◌is◌, ◌implies◌}
 use Rattle.search.specs.Below.{all_below}
 use Rattle.search.specs.Table.{table}
 use Rattle.numbers.specs.Limits.{most_tasks, most_resources, most_pairs}

@@ -1,6 +1,6 @@
 -- RULES.md, 'Set-up': how the names of groups are computed, pair by pair. specs/Groups says what a name means.
-use Rattle.std.specs.Prelude.{ℕ, zero, suc, min, max, Bool, ◌&&◌, List, map, ltb, get_or}
-use Rattle.search.specs.Words.{if◌then◌else◌, ◌is◌}
+use Rattle.std.specs.Prelude.{ℕ, zero, suc, min, max, Bool, ◌&&◌, List, map, ltb, get_or, if◌then◌else◌}
+use Rattle.search.specs.Words.{◌is◌}
 use Rattle.search.specs.Table.{table}
 use Rattle.numbers.specs.Limits.{most_resources, most_pairs, nothing}
 use Rattle.input.specs.Words.{kind, outer_of, inner_of}

@@ -30,7 +30,7 @@ fn has_zero_period(setup: Setup) -> bool
 
 // Some resource is neither short nor long.
 fn has_other_kind(setup: Setup) -> bool
-    ensures* { λ r. ⌜ r ≡ some_resource setup (λ r. ltb long (kind setup r)) ⌝ }
+    ensures { result ≡ some_resource setup (λ r. ltb long (kind setup r)) }
 {
     let mut some = false;
     for r in 0..Setup::RESOURCES {

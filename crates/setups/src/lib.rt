@@ -1,4 +1,6 @@
 // What is required of a set-up: its refusals, its places past the counts, and the groups of its resources.
+#![tactic(auto)]
+
 mod clearing;
 mod grouping;
 mod judging;
