@@ -5,3 +5,4 @@ pub mod Events
 pub mod Demands
 pub mod Theorems
 pub mod WitnessCases
+pub mod Impostors

@@ -8,7 +8,7 @@ use Rattle.search.specs.Below.{all_below, any_below, how_many}
 use Rattle.search.specs.First.{first}
 use Rattle.search.specs.Best.{best, better}
 use Rattle.search.specs.Table.{table}
-use Rattle.queue.specs.Waiting.{waiting, waiter as queued, empty, appended, moved_up, without_first, place_of, is_clear as tidyAt, is_tidy}
+use Rattle.queue.specs.Waiting.{waiting, waiter as queued, empty, appended, moved_up, without_first, place_of, is_clear as tidy_at, is_tidy}
 use Rattle.processors.specs.Words.{link, rank_of, mode_of, link_of, run_of, none_linked}
 use Rattle.scheduler.specs.Arriving.{lowest_free, lowest_linked, displacing, arriving_on, taken, arriving as linking}
 use Rattle.scheduler.specs.Leaving.{becoming_preemptable, next_task, filling, refilling, leaving_from, leaving, giving_way}
@@ -88,7 +88,7 @@ pub record Computed : Type 0 where
   pub warmed_there : link warmed.processors 1 ≡ 0
 
 pub computed : Computed
-unfolding all_below any_below first best better table waiting queued empty appended moved_up without_first place_of tidyAt is_tidy rank_of mode_of link_of run_of none_linked lowest_free lowest_linked displacing arriving_on taken linking becoming_preemptable next_task filling refilling leaving_from leaving giving_way is_placed setup_rows setup_refusal joined_by names_after names group_of below cleared empty_from is_clear fields_of stand asked deadline depth request holder len waiter own least_of long_held effective short_open jobs situation is_foremost total_for clock_sound times_sound requests_sound waiting_sound group_sound empty_sound sound misplaced event_rows judge open_of_kind opens enqueues closes frees dequeues passes arrives leaves becomes_preemptable gives_way arrive_event finish_event request_event complete_event charged act step_by step run_by run fresh begin how_many hands_over completions
+unfolding all_below any_below first best better table waiting queued empty appended moved_up without_first place_of tidy_at is_tidy rank_of mode_of link_of run_of none_linked lowest_free lowest_linked displacing arriving_on taken linking becoming_preemptable next_task filling refilling leaving_from leaving giving_way is_placed setup_rows setup_refusal joined_by names_after names group_of below cleared empty_from is_clear fields_of stand asked deadline depth request holder len waiter own least_of long_held effective short_open jobs situation is_foremost total_for clock_sound times_sound requests_sound waiting_sound group_sound empty_sound sound misplaced event_rows judge open_of_kind opens enqueues closes frees dequeues passes arrives leaves becomes_preemptable gives_way arrive_event finish_event request_event complete_event charged act step_by step run_by run fresh begin how_many hands_over completions
 computed = record {
   queueing_accepted = refl;
   asks_accepted = refl;

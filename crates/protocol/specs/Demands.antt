@@ -1,8 +1,8 @@
 -- RULES.md, 'The demands' and 'Tick totals': demand 3 and the totals, as statements about a state, an event or a list
 -- of events; and, at the end, the theorems: that they hold of every run from an accepted set-up, `after`.
 -- proofs/Theorems proves them; nothing else need be read to know what is promised.
-use Rattle.std.specs.Prelude.{ℕ, zero, suc, ◌+◌, ◌-◌, ◌<◌, ◌≤◌, min, ◌≡◌, Bool, true, false, not, ◌&&◌, List, [], ◌∷◌, ◌++◌, ◌≢◌, ◌⊎◌, ◌↔◌, ltb, length, get_or, set}
-use Rattle.search.specs.Words.{if◌then◌else◌, ◌is◌, ◌isn't◌}
+use Rattle.std.specs.Prelude.{ℕ, zero, suc, ◌+◌, ◌-◌, ◌<◌, ◌≤◌, min, ◌≡◌, Bool, true, false, not, ◌&&◌, List, [], ◌∷◌, ◌++◌, ◌≢◌, ◌⊎◌, ◌↔◌, ltb, length, get_or, set, if◌then◌else◌}
+use Rattle.search.specs.Words.{◌is◌, ◌isn't◌}
 use Rattle.search.specs.Below.{how_many}
 use Rattle.numbers.specs.Limits.{most_processors, most_tasks, nobody}
 use Rattle.numbers.specs.Refusals.{not_sound, clock_past_end, is_suspended, on_no_processor}

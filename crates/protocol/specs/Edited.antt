@@ -1,7 +1,7 @@
 -- What an accepted event does to tasks and groups, whatever the scheduler does: its edits without the scheduler's
 -- moves. The law `step-does` in proofs/Events/Edited ties it to the rules in specs/Events. c is the set-up of s.
-use Rattle.std.specs.Prelude.{ℕ, ◌||◌}
-use Rattle.search.specs.Words.{if◌then◌else◌, ◌is◌}
+use Rattle.std.specs.Prelude.{ℕ, ◌||◌, if◌then◌else◌}
+use Rattle.search.specs.Words.{◌is◌}
 use Rattle.input.specs.Kinds.{arrival, finish, request as asking, completion}
 use Rattle.setups.specs.Naming.{group_of}
 use Rattle.input.specs.declared.Setup.{Setup}

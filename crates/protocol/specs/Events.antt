@@ -1,6 +1,6 @@
 -- RULES.md, 'What each event does' and 'Tick totals': what an accepted event does. c is the set-up of s.
-use Rattle.std.specs.Prelude.{ℕ, ◌+◌, ◌||◌, List, [], ◌∷◌, map, get_or, set, take, replicate}
-use Rattle.search.specs.Words.{if◌then◌else◌, ◌is◌, ◌isn't◌}
+use Rattle.std.specs.Prelude.{ℕ, ◌+◌, ◌||◌, List, [], ◌∷◌, map, get_or, set, take, replicate, if◌then◌else◌}
+use Rattle.search.specs.Words.{◌is◌, ◌isn't◌}
 use Rattle.search.specs.Table.{table}
 use Rattle.processors.specs.Words.{none_linked}
 use Rattle.scheduler.specs.Arriving.{arriving as linking}

@@ -59,7 +59,7 @@ event_rows s e =
     let t = e.task in
     let r = e.resource in
     let acts = within finish e.kind completion in
-    let comesAgain = e.kind is arrival && (task s t).arrived in
+    let comes_again = e.kind is arrival && (task s t).arrived in
     let refusal = situation_refusal (situation s t) in
     not_sound when not (sound s) otherwise
     -- 10 to 13, by the fields alone
@@ -67,7 +67,7 @@ event_rows s e =
     step_backward when leb backward (step_of s e) otherwise
     clock_past_end when ltb last_clock (clock_after s e) otherwise
     already_pending when e.kind is arrival && stand s t isn't absent otherwise
-    arrives_early when comesAgain && ltb (clock_after s e) ((task s t).last + period c t) otherwise
+    arrives_early when comes_again && ltb (clock_after s e) ((task s t).last + period c t) otherwise
     not_pending when acts && refusal is not_pending otherwise
     is_suspended when acts && refusal is is_suspended otherwise
     on_no_processor when acts && refusal is on_no_processor otherwise

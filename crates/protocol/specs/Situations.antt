@@ -1,6 +1,6 @@
 -- RULES.md, 'Tick totals': the situation of a task, the total that it is charged to, and the refusal that it gives.
-use Rattle.std.specs.Prelude.{ℕ, Bool, true, false, ◌&&◌, ltb}
-use Rattle.search.specs.Words.{if◌then◌else◌, ◌is◌, ◌isn't◌}
+use Rattle.std.specs.Prelude.{ℕ, Bool, true, false, ◌&&◌, ltb, if◌then◌else◌}
+use Rattle.search.specs.Words.{◌is◌, ◌isn't◌}
 use Rattle.search.specs.Below.{how_many}
 use Rattle.numbers.specs.Refusals.{not_pending, is_suspended, on_no_processor, is_spinning}
 use Rattle.numbers.specs.Limits.{most_processors, most_tasks}

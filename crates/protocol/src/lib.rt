@@ -1,18 +1,20 @@
 // The state of a session: tasks, groups and processors. The rules over it are in specs/.
+#![tactic(auto)]
+
 use input::Setup;
 use numbers::Limit;
 use processors::Processors;
 use queue::Queue;
 
 // What a waiting job waits for: a lock, by its kind, with the resource asked for.
-#[derive(Drop)]
+#[derive(Clone, Copy)]
 pub enum Lock {
     Short(u8),
     Long(u8),
 }
 
 // A task has no job, an active one, or one that waits.
-#[derive(Drop)]
+#[derive(Clone, Copy)]
 pub enum Standing {
     Absent,
     Active,
@@ -20,7 +22,7 @@ pub enum Standing {
 }
 
 // What a task's job is doing.
-#[derive(Drop)]
+#[derive(Clone, Copy)]
 pub enum Situation {
     NoJob,
     Running,
@@ -32,7 +34,7 @@ pub enum Situation {
 
 // A task's record. `last` is the clock of the last arrival, if the task has `arrived` at all. The open requests are
 // the first `depth`, oldest first.
-#[derive(Drop)]
+#[derive(Clone, Copy)]
 pub struct Task {
     pub standing: Standing,
     pub deadline: u64,
@@ -60,14 +62,14 @@ impl Task {
 }
 
 // A lock's record. It is at the place of the group's lowest resource.
-#[derive(Drop)]
+#[derive(Clone, Copy)]
 pub struct Group {
     pub holder: u8,
     pub queue: Queue,
 }
 
 // The state of a session, with the exact clock.
-#[derive(Drop)]
+#[derive(Clone, Copy)]
 pub struct State {
     pub setup: Setup,
     pub clock: u32,
@@ -77,7 +79,7 @@ pub struct State {
 }
 
 // The answer to a set-up or an event, and the state after it.
-#[derive(Drop)]
+#[derive(Clone, Copy)]
 pub struct Reply {
     pub answer: u8,
     pub state: State,

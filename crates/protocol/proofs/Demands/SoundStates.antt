@@ -9,7 +9,7 @@ use Rattle.search.proofs.Tests.{tests}
 use Rattle.search.proofs.Pigeons.{how_many_same}
 use Rattle.numbers.specs.Limits.{most_tasks, nobody}
 use Rattle.processors.specs.Modes.{preemptable}
-use Rattle.processors.specs.Words.{mode_of, is_runnable as isRunnableJob, is_ahead as isAheadJob}
+use Rattle.processors.specs.Words.{mode_of, is_runnable as is_runnable_job, is_ahead as is_ahead_job}
 use Rattle.scheduler.specs.Placed.{Settled, Counted}
 use Rattle.scheduler.proofs.Laws.{counted_law}
 use Rattle.scheduler.proofs.Testing.{placed_of_test, test_of_placed}
@@ -41,7 +41,7 @@ module _ (s : State) where
   stand_most t = no_more (task s t).standing
 
   -- the jobs that are runnable for the scheduler are those that are
-  jobs_runnable : (t : ℕ) → t < most_tasks → isRunnableJob (jobs s.setup s) t ≡ is_runnable s t
+  jobs_runnable : (t : ℕ) → t < most_tasks → is_runnable_job (jobs s.setup s) t ≡ is_runnable s t
   jobs_runnable t h = elim (ℕ_discrete (stand s t) absent) [
     | yes e ↦ rw (lt-leb preemptable (mode_of (jobs s.setup s) t) (omega (arith, mode_absent s.setup s t h e)), eq-eqb _ _ e)
     | no a ↦ elim (ℕ_discrete (stand s t) suspended) [
@@ -53,14 +53,14 @@ module _ (s : State) where
     ]
   ]
 
-  jobs_ahead : (t u : ℕ) → t < most_tasks → u < most_tasks → isAheadJob (jobs s.setup s) t u ≡ is_ahead s t u
+  jobs_ahead : (t u : ℕ) → t < most_tasks → u < most_tasks → is_ahead_job (jobs s.setup s) t u ≡ is_ahead s t u
   jobs_ahead t u h l = rw (jobs_runnable u l, rank_in_jobs s.setup s t h, rank_in_jobs s.setup s u l)
 
   -- the counting form, of the jobs that the scheduler is given and of the state
   counted : (m : ℕ) → s.processors.count ≡ m → Settled s.processors (jobs s.setup s) → Counted s.processors (jobs s.setup s) → LinksHighest s m
   counted m e S C = record {
     highest = λ t h.
-        let many = how_many_same (isAheadJob (jobs s.setup s) t) (is_ahead s t) most_tasks (λ u l. jobs_ahead t u h l) in (
+        let many = how_many_same (is_ahead_job (jobs s.setup s) t) (is_ahead s t) most_tasks (λ u l. jobs_ahead t u h l) in (
           (λ x.
               let y = (C.highest t h).0 x in
               (sym (jobs_runnable t h) ∙ le-leb _ _ y.0.mode, omega (arith, many, y.1, e))),
@@ -68,21 +68,21 @@ module _ (s : State) where
         );
     once = S.linked_once;
     many =
-        let r = how_many_same (isRunnableJob (jobs s.setup s)) (is_runnable s) most_tasks jobs_runnable in
+        let r = how_many_same (is_runnable_job (jobs s.setup s)) (is_runnable s) most_tasks jobs_runnable in
         omega (arith, C.many, r, e);
   }
 
   uncounted : (m : ℕ) → s.processors.count ≡ m → LinksHighest s m → Counted s.processors (jobs s.setup s)
   uncounted m e L = record {
     highest = λ t h.
-        let many = how_many_same (isAheadJob (jobs s.setup s) t) (is_ahead s t) most_tasks (λ u l. jobs_ahead t u h l) in (
+        let many = how_many_same (is_ahead_job (jobs s.setup s) t) (is_ahead s t) most_tasks (λ u l. jobs_ahead t u h l) in (
           (λ x.
               let y = (L.highest t h).0 x in
               (record { task = h; mode = leb-true _ _ (jobs_runnable t h ∙ y.0) }, omega (arith, many, y.1, e))),
           λ x. (L.highest t h).1 (sym (jobs_runnable t h) ∙ le-leb _ _ x.0.mode, omega (arith, many, x.1, e)),
         );
     many =
-        let r = how_many_same (isRunnableJob (jobs s.setup s)) (is_runnable s) most_tasks jobs_runnable in
+        let r = how_many_same (is_runnable_job (jobs s.setup s)) (is_runnable s) most_tasks jobs_runnable in
         omega (arith, L.many, r, e);
   }
 

@@ -9,10 +9,11 @@ use native.Mathlib.Omega.{arith}
 use native.Mathlib.Decide.{ℕ_discrete}
 use lib.ListN.{length, get_or, set}
 use borrow.Author.Tests.{eq-eqb, ne_eqb}
-use Rattle.search.specs.Words.{if◌then◌else◌, ◌is◌, ◌isn't◌}
+use Rattle.std.specs.Prelude.{if◌then◌else◌}
+use Rattle.search.specs.Words.{◌is◌, ◌isn't◌}
 use Rattle.search.proofs.Tests.{tests, never}
 use Rattle.search.proofs.Tables.{table_at, replicate_at}
-use Rattle.numbers.specs.Limits.{most_tasks, nothing}
+use Rattle.numbers.specs.Limits.{most_tasks}
 use Rattle.setups.specs.Refusals.{setup_refusal}
 use Rattle.input.specs.Kinds.{arrival, finish}
 use Rattle.input.specs.declared.Setup.{Setup}

@@ -11,7 +11,8 @@ use lib.Dec.{ltb}
 use lib.ListN.{length, get_or, set, length-set, get_or-eq_default}
 use lib.Seq.{set_out}
 use borrow.Author.Tests.{not-true, eqb-true, eqb-false, eq-eqb, ne_eqb}
-use Rattle.search.specs.Words.{if◌then◌else◌, ◌is◌, ◌isn't◌}
+use Rattle.std.specs.Prelude.{if◌then◌else◌}
+use Rattle.search.specs.Words.{◌is◌, ◌isn't◌}
 use Rattle.search.proofs.Tables.{table_at, table_length, table_past}
 use Rattle.queue.specs.declared.Queue.{Queue}
 use Rattle.numbers.specs.Limits.{most_processors, most_tasks, nobody}
@@ -27,7 +28,6 @@ use Rattle.protocol.specs.Ranks.{own, jobs}
 use Rattle.protocol.specs.Situations.{situation_of, situation, is_foremost, total_of, total_for}
 use Rattle.protocol.specs.Locks.{arriving, departing, on_task, with_group}
 use Rattle.protocol.specs.Events.{counting, charged}
-use Rattle.protocol.specs.declared.Situation.{Situation}
 use Rattle.protocol.specs.declared.Situation.TheVariants.{Running, Spinning, LinkedOnly, Ready, Suspended}
 use Rattle.protocol.specs.declared.Task.{Task}
 use Rattle.protocol.specs.declared.State.{State}
