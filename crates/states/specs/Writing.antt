@@ -1,9 +1,8 @@
 -- The snapshot that is written of an event into a lent buffer: its answer, the links and the placements.
-use Rattle.std.specs.Prelude.{ℕ, zero, suc, ◌+◌, ◌*◌, List, [], ◌∷◌, ◌++◌, leb, length, set}
+use Rattle.std.specs.Prelude.{ℕ, zero, suc, ◌+◌, ◌*◌, List, [], ◌∷◌, ◌++◌, leb, length, set, if◌then◌else◌}
 use Rattle.numbers.specs.Limits.{most_processors}
 use Rattle.processors.specs.Words.{link, runs}
 use Rattle.processors.specs.declared.Processors.{Processors}
-use Rattle.search.specs.Words.{if◌then◌else◌}
 
 -- the bytes of a snapshot: the answer, and for each processor the linked and the running task
 abbrev pub snapshot_size : ℕ

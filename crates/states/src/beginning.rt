@@ -1,6 +1,6 @@
 // The state that a set-up begins with.
 ghost use Rattle.std.specs.Prelude.{◌≡◌};
-ghost use Rattle.protocol.specs.Events.{fresh as freshState, begin as beginRule};
+ghost use Rattle.protocol.specs.Events.{fresh as fresh_state, begin as begin_rule};
 ghost use Rattle.input.specs.Words.{no_setup};
 
 use crate::records::{no_group, no_task};
@@ -9,7 +9,7 @@ use protocol::{Group, Reply, State, Task};
 
 // The state of a set-up before any event: nobody has arrived.
 fn fresh(setup: Setup) -> State
-    ensures { result ≡ freshState setup }
+    ensures { result ≡ fresh_state setup }
 {
     let task = no_task();
     let group = no_group();
@@ -27,17 +27,18 @@ fn fresh(setup: Setup) -> State
 
 // The empty state, that of no set-up.
 pub fn empty() -> State
-    ensures { result ≡ freshState no_setup }
+    ensures { result ≡ fresh_state no_setup }
 {
     fresh(Setup::none())
 }
 
 // The answer to a set-up, and the state that it begins with; a refused one gives the empty state.
 pub fn begin(setup: Setup) -> Reply
-    ensures { result ≡ beginRule setup }
+    ensures { result ≡ begin_rule setup }
 {
     let answer = setups::judge_setup(setup);
-    if answer == 0 {
+    let accepted = answer == 0;
+    if accepted {
         let state = fresh(setups::clear(setup));
         Reply { answer, state }
     } else {

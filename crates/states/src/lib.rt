@@ -1,5 +1,7 @@
 // What is read from a state: its records and tables at any place, past their ends too; situations, totals and
 // snapshots; and the state that a set-up begins with.
+#![tactic(auto)]
+
 mod beginning;
 mod lookups;
 mod reading;

@@ -1,8 +1,8 @@
 // What is read from a state: situations and what each refuses, totals, links and placements.
 ghost use Rattle.std.specs.Prelude.{◌≡◌};
 ghost use Rattle.processors.specs.Words.{link, runs};
-ghost use Rattle.protocol.specs.Words.{task as taskRecord};
-ghost use Rattle.protocol.specs.Situations.{situation as situationRule, situation_refusal};
+ghost use Rattle.protocol.specs.Words.{task as task_record};
+ghost use Rattle.protocol.specs.Situations.{situation as situation_rule, situation_refusal};
 ghost use Rattle.states.specs.Writing.{snapshot_of};
 
 use crate::records::task_at;
@@ -13,7 +13,7 @@ use protocol::{Reply, Situation, State, Task};
 
 // What the job of task `t` is doing.
 pub fn situation(state: State, t: u8) -> Situation
-    ensures { result ≡ situationRule state t }
+    ensures { result ≡ situation_rule state t }
 {
     let tasks = state.tasks;
     let p = state.processors;
@@ -39,7 +39,7 @@ pub fn situation_refusal(situation: Situation) -> u8
 
 // The totals of task `t`: running, spinning, linked but not running, ready, direct blocking, suspended otherwise.
 pub fn totals_of(state: State, t: u8) -> [u32; Task::TOTALS]
-    ensures { result ≡ (taskRecord state t).totals }
+    ensures { result ≡ (task_record state t).totals }
 {
     let tasks = state.tasks;
     let counted = task_at(tasks, t);
