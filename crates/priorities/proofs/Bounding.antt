@@ -1,4 +1,4 @@
--- What `isBounded` says of the parts of a state. Assumes nothing.
+-- What `is_bounded` says of the parts of a state. Assumes nothing.
 use Prim.Native.Nat.{ℕ, ◌<◌, ◌≤◌}
 use mathlib.Core.Path.{◌≡◌}
 use mathlib.Core.Bool.{true}

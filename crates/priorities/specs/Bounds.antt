@@ -1,8 +1,8 @@
 -- The bounds within which the ranks of a state fit their type, and what the scheduler is given, from the parts of a
 -- state. A state whose set-up, clock and times are sound is within the bounds: see `ViewIsRuled` in
 -- soundness/specs/Parts.
-use Rattle.std.specs.Prelude.{ℕ, ◌+◌, ◌*◌, min, Bool, ◌&&◌, List, leb, ltb, get_or}
-use Rattle.search.specs.Words.{if◌then◌else◌, ◌is◌}
+use Rattle.std.specs.Prelude.{ℕ, ◌+◌, ◌*◌, min, Bool, ◌&&◌, List, leb, ltb, get_or, if◌then◌else◌}
+use Rattle.search.specs.Words.{◌is◌}
 use Rattle.search.specs.Below.{all_below, any_below}
 use Rattle.search.specs.First.{first}
 use Rattle.search.specs.Table.{table}
