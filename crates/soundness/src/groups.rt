@@ -6,7 +6,7 @@ ghost use Rattle.queue.specs.Limits.{capacity};
 ghost use Rattle.queue.specs.Waiting.{waiter, place_of};
 ghost use Rattle.numbers.specs.Limits.{most_tasks, most_resources, most_requests, nothing};
 ghost use Rattle.setups.specs.Naming.{names};
-ghost use Rattle.protocol.specs.Words.{absent, stand, task as taskRecord, group as groupRecord, asked as askedBy};
+ghost use Rattle.protocol.specs.Words.{absent, stand, task as task_record, group as group_record, asked as asked_by};
 ghost use Rattle.protocol.specs.Sound.{requests_sound, group_sound};
 ghost use Rattle.soundness.specs.Opens.{waits_in};
 
@@ -77,9 +77,9 @@ fn group_holds(
     g: u8,
 ) -> bool
     requires { task.depth ≤ most_requests }
-    ensures { (s : State) → group ≡ groupRecord s g → task ≡ taskRecord s group.holder
+    ensures { (s : State) → group ≡ group_record s g → task ≡ task_record s group.holder
         → naming ≡ names s.setup → ((t : ℕ) → get_or stands t absent ≡ stand s t)
-        → ((t : ℕ) → get_or asked t nothing ≡ askedBy s t) → result ≡ group_sound s.setup s g }
+        → ((t : ℕ) → get_or asked t nothing ≡ asked_by s t) → result ≡ group_sound s.setup s g }
 {
     let holder = group.holder;
     let queue = group.queue;

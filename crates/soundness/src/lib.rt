@@ -1,4 +1,6 @@
 // The sound state, clause by clause, as a test of any content.
+#![tactic(auto)]
+
 use input::Setup;
 
 mod groups;
@@ -10,7 +12,7 @@ mod testing;
 pub use testing::{is_sound, test};
 
 // Whether a state passes the test, and the names of its groups.
-#[derive(Drop)]
+#[derive(Clone, Copy)]
 pub struct Tested {
     pub passes: bool,
     pub naming: [u8; Setup::RESOURCES],

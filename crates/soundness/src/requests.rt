@@ -5,7 +5,7 @@ ghost use Rattle.search.specs.Below.{all_below};
 ghost use Rattle.search.specs.Table.{table};
 ghost use Rattle.numbers.specs.Limits.{most_tasks, most_resources, most_requests, nobody, nothing};
 ghost use Rattle.setups.specs.Naming.{names, group_of};
-ghost use Rattle.protocol.specs.Words.{spinning, group, holder, task as taskRecord, stand as standOf, asked as askedBy};
+ghost use Rattle.protocol.specs.Words.{spinning, group, holder, task as task_record, stand as stand_of, asked as asked_by};
 ghost use Rattle.protocol.specs.Records.{no_group};
 ghost use Rattle.protocol.specs.Sound.{requests_sound, waiting_sound};
 ghost use Rattle.soundness.specs.Opens.{is_held, is_once, is_long, is_together};
@@ -139,7 +139,7 @@ fn requests_hold(
     holders: [u8; Setup::RESOURCES],
     t: u8,
 ) -> bool
-    ensures { (s : State) → task ≡ taskRecord s t → kinds ≡ s.setup.kinds → resources ≡ s.setup.resources
+    ensures { (s : State) → task ≡ task_record s t → kinds ≡ s.setup.kinds → resources ≡ s.setup.resources
         → groups ≡ names s.setup → ((g : ℕ) → get_or holders g nobody ≡ holder s g)
         → result ≡ requests_sound s.setup s t }
 {
@@ -191,7 +191,7 @@ fn waiting_holds(
     resources: usize,
     t: u8,
 ) -> bool
-    ensures { (s : State) → task ≡ taskRecord s t → stand ≡ standOf s t → asked ≡ askedBy s t
+    ensures { (s : State) → task ≡ task_record s t → stand ≡ stand_of s t → asked ≡ asked_by s t
         → queue ≡ (group s (group_of s.setup asked)).queue → kinds ≡ s.setup.kinds → resources ≡ s.setup.resources
         → (leb spinning stand implies result) ≡ waiting_sound s.setup s t }
 {

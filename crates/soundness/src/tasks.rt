@@ -4,7 +4,7 @@ ghost use Rattle.search.specs.Words.{◌is◌, ◌implies◌};
 ghost use Rattle.search.specs.Below.{all_below};
 ghost use Rattle.numbers.specs.Limits.{most_tasks, most_requests, nothing};
 ghost use Rattle.input.specs.Words.{due_at};
-ghost use Rattle.protocol.specs.Words.{sum, task as taskRecord};
+ghost use Rattle.protocol.specs.Words.{sum, task as task_record};
 ghost use Rattle.protocol.specs.Sound.{times_sound, empty_sound};
 
 use input::Setup;
@@ -36,7 +36,7 @@ fn elapsed(start: u32, clock: u32) -> u64
 // The clauses of the times and totals of a task, from its record and the deadline that its last arrival gives, in any
 // state with this start and this clock.
 fn times_hold(task: Task, due: u64, start: u32, clock: u32) -> bool
-    ensures { (s : State) (t : ℕ) → task ≡ taskRecord s t → due ≡ due_at s.setup t task.last
+    ensures { (s : State) (t : ℕ) → task ≡ task_record s t → due ≡ due_at s.setup t task.last
         → start ≡ s.setup.start → clock ≡ s.clock → result ≡ times_sound s.setup s t }
 {
     let standing = task.standing;
@@ -75,7 +75,7 @@ fn requests_end(requests: [u8; Task::REQUESTS], depth: usize) -> bool
 
 // The clauses of the empty places of a task, from its record; `past` says that the set-up has no such task.
 fn empty_holds(task: Task, past: bool) -> bool
-    ensures { (s : State) (t : ℕ) → task ≡ taskRecord s t → past ≡ leb s.setup.tasks t
+    ensures { (s : State) (t : ℕ) → task ≡ task_record s t → past ≡ leb s.setup.tasks t
         → result ≡ empty_sound s.setup s t }
 {
     let standing = task.standing;
