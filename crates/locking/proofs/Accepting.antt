@@ -2,7 +2,8 @@
 use Rattle.std.proofs.Common.{◌≡◌, ℕ, ◌+◌, ◌<◌, ◌≤◌, min, Bool, true, false, ◌||◌, ◌⊎◌, List, length, get_or, set, sym, refl, ap, ◌∙◌, subst, inl, inr, ⊎_elim, arith, length-set, get_or-set_other, get_or-set_same, set-set, eq-eqb, ne_eqb, eqb-true}
 use native.Mathlib.Decide.{ℕ_discrete, dec_lt}
 use lib.Seq.{set-get_or}
-use Rattle.search.specs.Words.{if◌then◌else◌, ◌is◌}
+use Rattle.std.specs.Prelude.{if◌then◌else◌}
+use Rattle.search.specs.Words.{◌is◌}
 use Rattle.search.specs.Table.{table}
 use Rattle.search.proofs.Tables.{table_length}
 use Rattle.search.proofs.Tests.{tests}
@@ -17,7 +18,7 @@ use Rattle.input.specs.Words.{period, due_at}
 use Rattle.input.specs.declared.Setup.{Setup}
 use Rattle.input.specs.declared.Event.{Event}
 use Rattle.setups.specs.Naming.{names, group_of}
-use Rattle.protocol.specs.Words.{absent, last_clock, standing_no, stand, task, group, deadline, depth}
+use Rattle.protocol.specs.Words.{absent, last_clock, standing_no, stand, task, group}
 use Rattle.protocol.specs.Records.{no_task, no_group, with_standing, with_processors, with_totals}
 use Rattle.protocol.specs.Ranks.{mode_for, jobs}
 use Rattle.protocol.specs.declared.Lock.TheVariants.{Short, Long}

@@ -1,6 +1,7 @@
 -- The branches of a request and of a completion, as equations. Assumes nothing.
 use Rattle.std.proofs.Common.{◌≡◌, ℕ, true, false, ◌||◌, eq-eqb, ne_eqb}
-use Rattle.search.specs.Words.{if◌then◌else◌, ◌is◌}
+use Rattle.std.specs.Prelude.{if◌then◌else◌}
+use Rattle.search.specs.Words.{◌is◌}
 use Rattle.input.specs.Kinds.{short}
 use Rattle.input.specs.Words.{kind}
 use Rattle.setups.specs.Naming.{group_of}

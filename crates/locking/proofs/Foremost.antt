@@ -1,7 +1,8 @@
 -- Which suspended jobs are foremost, from the tables that are kept of a state. Assumes nothing.
 use Rattle.std.proofs.Common.{◌≡◌, ℕ, ◌<◌, ◌≤◌, Bool, true, false, ltb, ◌≢◌, List, get_or, refl, ap, ◌∙◌, arith, eq-eqb, ne_eqb, le-leb}
 use native.Mathlib.Decide.{ℕ_discrete}
-use Rattle.search.specs.Words.{if◌then◌else◌, ◌is◌}
+use Rattle.std.specs.Prelude.{if◌then◌else◌}
+use Rattle.search.specs.Words.{◌is◌}
 use Rattle.search.specs.Below.{how_many}
 use Rattle.search.specs.Table.{table}
 use Rattle.search.proofs.Pigeons.{how_many_same, how_many_past}

@@ -2,7 +2,8 @@
 -- when the scheduler moves. Assumes nothing.
 use Rattle.std.proofs.Common.{◌≡◌, ℕ, ◌+◌, ◌<◌, ◌≤◌, min, Bool, true, false, List, length, get_or, set, sym, refl, ap, ◌∙◌, arith, length-set, get_or-set_other, get_or-set_same}
 use native.Mathlib.Decide.{ℕ_discrete}
-use Rattle.search.specs.Words.{if◌then◌else◌, ◌isn't◌}
+use Rattle.std.specs.Prelude.{if◌then◌else◌}
+use Rattle.search.specs.Words.{◌isn't◌}
 use Rattle.search.specs.Table.{table}
 use Rattle.search.proofs.Tables.{table_length, table_at, table_of, table_same}
 use Rattle.processors.specs.Words.{jobs_from}

@@ -3,7 +3,8 @@
 use Rattle.std.proofs.Common.{◌≡◌, ℕ, zero, suc, ◌<◌, Bool, true, false, ◌&&◌, ◌||◌, ltb, ◌≢◌, List, length, get_or, set, sym, refl, ap, ◌∙◌, subst, arith, get_or-set_other, get_or-set_same, eq-eqb, ne_eqb}
 use native.Mathlib.Decide.{ℕ_discrete}
 use lib.Seq.{set-get_or}
-use Rattle.search.specs.Words.{if◌then◌else◌, ◌is◌, ◌isn't◌}
+use Rattle.std.specs.Prelude.{if◌then◌else◌}
+use Rattle.search.specs.Words.{◌is◌, ◌isn't◌}
 use Rattle.search.proofs.Pigeons.{how_many_same}
 use Rattle.numbers.specs.Limits.{nobody}
 use Rattle.queue.specs.Waiting.{appended}

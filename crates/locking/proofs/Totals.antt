@@ -2,7 +2,8 @@
 -- nothing.
 use Rattle.std.proofs.Common.{◌≡◌, ℕ, zero, suc, ◌+◌, ◌*◌, ◌/◌, ◌%◌, ◌<◌, ◌≤◌, Bool, true, false, ltb, List, length, get_or, set, sym, refl, ap, ◌∙◌, add-one, arith, length-set, get_or-set_other, get_or-set_same, eq-eqb, ne_eqb}
 use native.Mathlib.Decide.{ℕ_discrete, dec_lt}
-use Rattle.search.specs.Words.{if◌then◌else◌, ◌isn't◌}
+use Rattle.std.specs.Prelude.{if◌then◌else◌}
+use Rattle.search.specs.Words.{◌isn't◌}
 use Rattle.search.specs.Table.{table}
 use Rattle.search.proofs.Tables.{table_length, table_at, table_of, table_same}
 use Rattle.processors.specs.declared.Processors.{Processors}

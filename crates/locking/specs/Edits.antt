@@ -1,7 +1,7 @@
 -- RULES.md, 'What each event does', over the records of an event's task and group: the records after it, the
 -- scheduler's move that follows, and the task that is then handed the group.
-use Rattle.std.specs.Prelude.{ℕ, Bool, ◌||◌, List, get_or, slice_index, slice_index_or, slice_set}
-use Rattle.search.specs.Words.{if◌then◌else◌, ◌is◌}
+use Rattle.std.specs.Prelude.{ℕ, Bool, ◌||◌, List, get_or, slice_index, slice_index_or, slice_set, if◌then◌else◌}
+use Rattle.search.specs.Words.{◌is◌}
 use Rattle.search.specs.Below.{any_below}
 use Rattle.queue.specs.Waiting.{waiter, appended, without_first}
 use Rattle.processors.specs.declared.Jobs.{Jobs}

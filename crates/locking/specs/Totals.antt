@@ -1,7 +1,7 @@
 -- While a part of events is played, the totals of all tasks are in one table of numbers, task after task. The totals
 -- in the records are out of date meanwhile.
-use Rattle.std.specs.Prelude.{◌≡◌, ℕ, zero, suc, ◌+◌, ◌*◌, ◌/◌, ◌%◌, ◌<◌, ◌≤◌, Bool, false, ◌&&◌, List, length, get_or, nat_lt, slice_index, slice_index_or, slice_set}
-use Rattle.search.specs.Words.{if◌then◌else◌, ◌is◌, ◌isn't◌}
+use Rattle.std.specs.Prelude.{◌≡◌, ℕ, zero, suc, ◌+◌, ◌*◌, ◌/◌, ◌%◌, ◌<◌, ◌≤◌, Bool, false, ◌&&◌, List, length, get_or, nat_lt, slice_index, slice_index_or, slice_set, if◌then◌else◌}
+use Rattle.search.specs.Words.{◌is◌, ◌isn't◌}
 use Rattle.search.specs.Table.{table}
 use Rattle.numbers.specs.Limits.{most_processors, most_tasks}
 use Rattle.processors.specs.Words.{place_of, link_of, run_of}

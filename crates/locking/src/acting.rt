@@ -12,7 +12,7 @@ use protocol::{Group, Standing, Task};
 // The records of an event's task and group after it, the scheduler's move `turn` that follows, and the task `next`
 // that is then handed the group, or nobody. Both records are always there, changed or not: so every kind of event is
 // done alike, by reading the two, storing them back and making the move.
-#[derive(Drop)]
+#[derive(Clone, Copy)]
 pub struct Edit {
     pub task: Task,
     pub group: Group,

@@ -10,7 +10,7 @@ pub fn step_to(clock: u32, tick: u16) -> u16
     ensures { result ≡ ticks_to clock tick }
 {
     let last = (clock % TICKS) as u16;
-    std::num::wrapping_sub_u16(tick, last)
+    tick.wrapping_sub(last)
 }
 
 // The exact clock after an event, in 64 bits, as it may pass the end.

@@ -1,7 +1,7 @@
 // One event: its answer, and the state after it.
 ghost use Rattle.std.specs.Prelude.{◌≡◌};
-ghost use Rattle.protocol.specs.Refusals.{judge as judgeRule};
-ghost use Rattle.protocol.specs.Events.{step as stepRule};
+ghost use Rattle.protocol.specs.Refusals.{judge as judge_rule};
+ghost use Rattle.protocol.specs.Events.{step as step_rule};
 
 use crate::judging::judge_parts;
 use crate::playing::play;
@@ -10,7 +10,7 @@ use protocol::{Reply, State};
 
 // The first of 9 to 26 that applies, or 0.
 pub fn judge_event(state: State, e: Event) -> u8
-    ensures { result ≡ judgeRule state e }
+    ensures { result ≡ judge_rule state e }
 {
     let tested = soundness::test(state);
     let naming = tested.naming;
@@ -24,7 +24,7 @@ pub fn judge_event(state: State, e: Event) -> u8
 // The answer to an event, and the state after it; a refused event leaves the state as it was. It is played as a part
 // of one event.
 pub fn step(state: State, e: Event) -> Reply
-    ensures { result ≡ stepRule state e }
+    ensures { result ≡ step_rule state e }
 {
     let part = input::event_bytes(e);
     let mut snapshot = [0u8; Reply::SNAPSHOT];

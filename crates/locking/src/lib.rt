@@ -1,4 +1,6 @@
 // Locking: sessions stepped by events. Every public function is defined for any content, by the rules of `protocol`.
+#![tactic(auto)]
+
 mod acting;
 mod clock;
 mod counting;
@@ -16,7 +18,7 @@ use protocol::State;
 pub use unplacing::unplaced;
 
 // The state after the events of a part that were played, and how many they were.
-#[derive(Drop)]
+#[derive(Clone, Copy)]
 pub struct Played {
     pub state: State,
     pub count: usize,

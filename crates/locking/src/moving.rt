@@ -15,7 +15,7 @@ use protocol::{Group, Task};
 
 // What moves and charges look up of each task: its own rank, its mode and its standing's number. It is kept up to
 // date from event to event, so that no event has to read every record.
-#[derive(Drop)]
+#[derive(Clone, Copy)]
 pub struct Kept {
     pub own: [u64; Setup::TASKS],
     pub modes: [u8; Setup::TASKS],

@@ -54,7 +54,8 @@ fn play_events(state: State, tested: Tested, part: &[u8], count: usize, out: &mu
             states::no_task()
         };
         let answer = judge_parts(setup, clock, task, p, naming, tested.passes, e);
-        if answer == 0 {
+        let accepted = answer == 0;
+        if accepted {
             let ticks = step_to(clock, e.tick);
             let stands = kept.stands;
             charge(&mut totals, stands, ahead, p, setup.tasks, ticks);

@@ -1,8 +1,7 @@
 // How many tasks outrank each suspended one: are pending, suspended or not, with a lower own rank. A suspended job is
 // directly blocked while fewer do than there are processors. It is counted when a job suspends, and corrected when
 // another arrives or finishes, so that no event has to count for every suspended job.
-ghost use Rattle.std.specs.Prelude.{◌≡◌, ◌+◌, ◌-◌, ◌<◌, ◌≤◌, true, length, slice_set};
-ghost use Rattle.search.specs.Words.{if◌then◌else◌};
+ghost use Rattle.std.specs.Prelude.{◌≡◌, ◌+◌, ◌-◌, ◌<◌, ◌≤◌, true, length, slice_set, if◌then◌else◌};
 ghost use Rattle.numbers.specs.Limits.{most_tasks};
 ghost use Rattle.protocol.specs.Words.{standing_no};
 ghost use Rattle.priorities.specs.Bounds.{rank_by};

@@ -5,10 +5,10 @@ ghost use Rattle.numbers.specs.Limits.{most_tasks, most_resources};
 ghost use Rattle.input.specs.Kinds.{request as asking, completion};
 ghost use Rattle.setups.specs.Naming.{group_of};
 ghost use Rattle.protocol.specs.Refusals.{step_of, judge};
-ghost use Rattle.protocol.specs.Events.{charged as chargedRule};
-ghost use Rattle.protocol.specs.Edited.{edited as editedRule, unplaced as unplacedRule};
+ghost use Rattle.protocol.specs.Events.{charged as charged_rule};
+ghost use Rattle.protocol.specs.Edited.{edited as edited_rule, unplaced as unplaced_rule};
 ghost use Rattle.locking.specs.Acting.{CanAct};
-ghost use Rattle.locking.specs.Edits.{put as putRule};
+ghost use Rattle.locking.specs.Edits.{put as put_rule};
 
 use crate::acting::{edited, hand_over};
 use crate::clock::step_to;
@@ -24,7 +24,7 @@ use protocol::{Group, Reply, State, Task};
 // The state with the clock moved on to the accepted event `e`, and its ticks charged to each pending task.
 fn charged(state: State, e: Event) -> State
     requires { judge state e ≡ 0 }
-    ensures { result ≡ chargedRule (step_of state e) state }
+    ensures { result ≡ charged_rule (step_of state e) state }
 {
     let setup = state.setup;
     let kinds = setup.kinds;
@@ -49,7 +49,7 @@ fn charged(state: State, e: Event) -> State
 // The state with `task` as the record of task `t`, and `group` as that at place `g`.
 fn put(state: State, t: u8, g: usize, task: Task, group: Group) -> State
     requires { (t < most_tasks) × (g < most_resources) }
-    ensures { result ≡ putRule t g task group state }
+    ensures { result ≡ put_rule t g task group state }
 {
     let i = t as usize;
     let mut next = state;
@@ -62,7 +62,7 @@ fn put(state: State, t: u8, g: usize, task: Task, group: Group) -> State
 fn edit_state(state: State, g: usize, e: Event) -> State
     requires { CanAct state e × (g < most_resources)
         × ((asking ≤ e.kind) × (e.kind ≤ completion) → g ≡ group_of state.setup e.resource) }
-    ensures { result ≡ editedRule state.setup e state }
+    ensures { result ≡ edited_rule state.setup e state }
 {
     let setup = state.setup;
     let kinds = setup.kinds;
@@ -88,7 +88,7 @@ fn edit_state(state: State, g: usize, e: Event) -> State
 
 // The answer to an event, and the state after it but for links and placements, which are as they were.
 pub fn unplaced(state: State, e: Event) -> Reply
-    ensures { result ≡ unplacedRule state e }
+    ensures { result ≡ unplaced_rule state e }
 {
     let answer = judge_event(state, e);
     if answer != 0 {
