@@ -29,7 +29,7 @@ use Rattle.setups.specs.Naming.{group_of}
 use Rattle.protocol.specs.Records.{no_group}
 use Rattle.numbers.specs.Limits.{most_requests}
 use Rattle.protocol.specs.declared.Group.{Group}
-use Rattle.protocol.specs.Words.{depth, request, absent, suspended, stand, task, group, holder, len, asked, waiter}
+use Rattle.protocol.specs.Words.{depth, request, absent, suspended, stand, group, holder, len, asked, waiter}
 use Rattle.protocol.specs.Ranks.{jobs}
 use Rattle.protocol.specs.Refusals.{step_of, judge}
 use Rattle.protocol.specs.Locks.{open_of_kind, opens, enqueues, closes, frees, next_at, dequeues, passes, arrive_edit, finish_edit}

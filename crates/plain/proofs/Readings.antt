@@ -10,7 +10,8 @@ use native.Mathlib.Decide.{ℕ_discrete, dec_lt}
 use lib.Dec.{leb, ltb}
 use lib.Seq.{set_out}
 use borrow.Author.Tests.{lt-ltb, le-ltb, le-leb, lt-leb, leb-true, ltb-true, eq-eqb, ne_eqb, eqb-true, eqb-false}
-use Rattle.search.specs.Words.{if◌then◌else◌, ◌is◌}
+use Rattle.std.specs.Prelude.{if◌then◌else◌}
+use Rattle.search.specs.Words.{◌is◌}
 use Rattle.search.proofs.Tests.{and_left, and_right, never}
 use Rattle.search.proofs.Firsts.{First, first_law}
 use Rattle.numbers.specs.Limits.{most_processors, most_tasks, nobody}
@@ -29,7 +30,7 @@ use Rattle.plain.specs.Reading.{place_in, next_in, lowest_in, displacing_in, arr
 use Rattle.plain.specs.declared.Order.{Order}
 use Rattle.plain.proofs.Sorted.{Sorted}
 
--- no more than `mostProcessors` is found
+-- no more than `most_processors` is found
 run_most : (p : Processors) (t : ℕ) → run_of p t ≤ most_processors
 unfolding run_of
 run_most p t = (first_law (λ k. runs p k is t) 0 most_processors).high

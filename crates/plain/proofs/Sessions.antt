@@ -7,7 +7,7 @@ use native.Mathlib.Omega.{arith}
 use native.Mathlib.Decide.{ℕ_discrete}
 use lib.ListN.{length, length-replicate}
 use borrow.Author.Tests.{eq-eqb, ne_eqb}
-use Rattle.search.specs.Words.{if◌then◌else◌}
+use Rattle.std.specs.Prelude.{if◌then◌else◌}
 use Rattle.search.specs.Table.{table}
 use Rattle.search.proofs.Tests.{never}
 use Rattle.search.proofs.Tables.{replicate_at}
@@ -21,7 +21,7 @@ use Rattle.input.specs.declared.Event.{Event}
 use Rattle.setups.specs.Refusals.{setup_refusal}
 use Rattle.setups.specs.Clearing.{cleared}
 use Rattle.protocol.specs.Records.{no_task, with_processors}
-use Rattle.protocol.specs.Words.{stand, deadline}
+use Rattle.protocol.specs.Words.{stand}
 use Rattle.protocol.specs.Sound.{sound}
 use Rattle.protocol.specs.Refusals.{step_of, judge}
 use Rattle.protocol.specs.Edited.{edited, unplaced}

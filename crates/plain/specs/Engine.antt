@@ -1,6 +1,5 @@
 -- The plain engine answers as the rules do, and keeps the order of its state.
-use Rattle.std.specs.Prelude.{List, [], ◌∷◌}
-use Rattle.search.specs.Words.{if◌then◌else◌}
+use Rattle.std.specs.Prelude.{List, [], ◌∷◌, if◌then◌else◌}
 use Rattle.numbers.specs.Refusals.{not_sound}
 use Rattle.input.specs.declared.Setup.{Setup}
 use Rattle.input.specs.declared.Event.{Event}

@@ -1,6 +1,6 @@
 -- What the code reads off an order, and the moves by it. `modes` are those of the tasks' jobs.
-use Rattle.std.specs.Prelude.{ℕ, zero, suc, List, [], leb, ltb, get_or, set}
-use Rattle.search.specs.Words.{if◌then◌else◌, ◌is◌}
+use Rattle.std.specs.Prelude.{ℕ, zero, suc, List, [], leb, ltb, get_or, set, if◌then◌else◌}
+use Rattle.search.specs.Words.{◌is◌}
 use Rattle.search.specs.First.{first}
 use Rattle.search.specs.Table.{table}
 use Rattle.numbers.specs.Limits.{most_processors, most_tasks, nobody}
@@ -40,7 +40,7 @@ place_in o t = first (λ i. task_at o i is t) 0 o.pending
 unfoldable pub next_in : Order → List ℕ → Processors → ℕ
 next_in o modes p = first (λ i. is_unlinked p (jobs_from [] modes) (task_at o i)) 0 o.pending
 
--- the processor of the last linked job among the first n; `mostProcessors` where there is none
+-- the processor of the last linked job among the first n; `most_processors` where there is none
 unfoldable pub lowest_in : Order → Processors → ℕ → ℕ
 lowest_in o p zero = most_processors
 lowest_in o p (suc n) =

@@ -3,6 +3,8 @@
 //
 // To be read from here: `stepping` has an event from its answer to the new order, `ordering` puts the jobs in order,
 // `moving` reads links and placements off the order, and `playing` takes the events of a part one after another.
+#![tactic(auto)]
+
 mod moving;
 mod ordering;
 mod playing;
@@ -15,21 +17,21 @@ pub use stepping::{begin, step};
 
 // The pending jobs, suspended ones too, by effective priority: the tasks in the first `pending` places, the
 // highest-priority one first. The other places have nobody.
-#[derive(Drop)]
+#[derive(Clone, Copy)]
 pub struct Order {
     pub tasks: [u8; Setup::TASKS],
     pub pending: usize,
 }
 
 // A session: the state, and the order of its pending jobs.
-#[derive(Drop)]
+#[derive(Clone, Copy)]
 pub struct Plain {
     pub state: State,
     pub order: Order,
 }
 
 // The answer to a set-up or an event, and the session after it.
-#[derive(Drop)]
+#[derive(Clone, Copy)]
 pub struct PlainReply {
     pub answer: u8,
     pub session: Plain,
