@@ -49,15 +49,15 @@ module _ (a b : List ℕ) (in_a : AreBytes a) (in_b : AreBytes b) (o : OneChange
       let rest = rw (first_same n (omega arith)) at e in
       let lows : (byte a (2 * n) < 256) × (byte b (2 * n) < 256) = (in_a _, in_b _) in
       let highs : (byte a (2 * n + 1) < 256) × (byte b (2 * n + 1) < 256) = (in_a _, in_b _) in
-      let IsWord-same = same_rest (sums b n).first (word a (2 * n)) (word b (2 * n)) in
+      let word_same = same_rest (sums b n).first (word a (2 * n)) (word b (2 * n)) in
       elim (ℕ_discrete o.place (2 * n)) [
         | yes low ↦
             let high = o.others (2 * n + 1) (λ p. omega arith) in
-            (rw low at o.changed) (omega (arith, IsWord-same (omega arith) (omega arith) rest))
+            (rw low at o.changed) (omega (arith, word_same (omega arith) (omega arith) rest))
         | no d ↦
             let high : o.place ≡ 2 * n + 1 = omega arith in
             let low = o.others (2 * n) (λ p. omega arith) in
-            (rw high at o.changed) (omega (arith, IsWord-same (omega arith) (omega arith) rest))
+            (rw high at o.changed) (omega (arith, word_same (omega arith) (omega arith) rest))
       ]
 
   -- and the words behind it are the same

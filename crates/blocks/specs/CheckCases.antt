@@ -1,5 +1,5 @@
 -- RULES.md, 'Blocks': the check of four blocks, worked out by hand and computed.
-use Rattle.std.specs.Prelude.{ℕ, ◌≡◌, refl, List, [], ◌∷◌, replicate}
+use Rattle.std.specs.Prelude.{ℕ, ◌≡◌, refl, [], ◌∷◌, replicate}
 use Rattle.blocks.specs.Sizes.{check_at}
 use Rattle.blocks.specs.Check.{sums, check_of}
 use Rattle.blocks.specs.declared.Check.{Check}

@@ -1,7 +1,7 @@
 -- RULES.md, 'Blocks' and 'Numbers handed back': the refusals 30 to 35 of a block, in the list's order, and its used
 -- part.
-use Rattle.std.specs.Prelude.{ℕ, ◌+◌, ◌-◌, ◌*◌, ◌%◌, Bool, not, ◌&&◌, ◌||◌, List, [], ltb, length, take, drop}
-use Rattle.search.specs.Words.{if◌then◌else◌, ◌is◌, ◌isn't◌}
+use Rattle.std.specs.Prelude.{ℕ, ◌+◌, ◌-◌, ◌*◌, ◌%◌, Bool, not, ◌&&◌, ◌||◌, List, [], ltb, length, take, drop, if◌then◌else◌}
+use Rattle.search.specs.Words.{◌is◌, ◌isn't◌}
 use Rattle.search.specs.Below.{all_below}
 use Rattle.numbers.specs.Refusals.{size_wrong, check_wrong, number_wrong, block_kind_wrong, record_count_wrong, filler_wrong}
 use Rattle.numbers.specs.Rows.{Row, ◌when◌, ◌otherwise◌, first_of}

@@ -1,4 +1,6 @@
 // The reader of block files: a block's check, the verdict on it, and its used part.
+#![tactic(auto)]
+
 mod checking;
 mod judging;
 
@@ -6,7 +8,7 @@ pub use checking::check_of;
 pub use judging::{judge_block, number_of, used_part};
 
 // The layout and the limits of a block. Its bytes are always lent, as a slice.
-#[derive(Drop)]
+#[derive(Clone, Copy)]
 pub struct Block {}
 
 impl Block {
@@ -34,14 +36,14 @@ impl Block {
 }
 
 // The two sums of a block's check.
-#[derive(Drop)]
+#[derive(Clone, Copy)]
 pub struct Check {
     pub first: u32,
     pub second: u32,
 }
 
 // Accepted, with the length of the used part; or refused, with its number.
-#[derive(Drop)]
+#[derive(Clone, Copy)]
 pub enum Verdict {
     Used(usize),
     Refused(u8),
