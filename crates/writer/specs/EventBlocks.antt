@@ -1,7 +1,7 @@
 -- RULES.md, 'Blocks' and 'Writing blocks': the block that is written of events, and the events of a block that was
 -- read.
-use Rattle.std.specs.Prelude.{ℕ, ◌/◌, ◌%◌, not, ◌||◌, List, [], ltb, get_or}
-use Rattle.search.specs.Words.{if◌then◌else◌, ◌is◌}
+use Rattle.std.specs.Prelude.{ℕ, ◌/◌, ◌%◌, not, ◌||◌, List, [], ltb, get_or, if◌then◌else◌}
+use Rattle.search.specs.Words.{◌is◌}
 use Rattle.numbers.specs.Refusals.{number_wrong, record_count_wrong}
 use Rattle.numbers.specs.Rows.{Row, ◌when◌, ◌otherwise◌}
 use Rattle.search.specs.Table.{table}

@@ -1,6 +1,5 @@
 -- RULES.md, 'Blocks': a block made of its head, its payload and the check.
-use Rattle.std.specs.Prelude.{ℕ, ◌-◌, ◌%◌, List, [], ◌∷◌, ◌++◌, ltb, get_or, drop}
-use Rattle.search.specs.Words.{if◌then◌else◌}
+use Rattle.std.specs.Prelude.{ℕ, ◌-◌, ◌%◌, List, [], ◌∷◌, ◌++◌, ltb, get_or, drop, if◌then◌else◌}
 use Rattle.search.specs.Table.{table}
 use Rattle.input.specs.Layout.{low, high}
 use Rattle.blocks.specs.Sizes.{payload_at, check_at, block_size, numbers}

@@ -1,6 +1,6 @@
 -- RULES.md, 'Blocks' and 'Writing blocks': the block that is written of a set-up.
-use Rattle.std.specs.Prelude.{ℕ, ◌-◌, ◌/◌, ◌%◌, ◌≤◌, List, [], ◌∷◌, ltb, get_or}
-use Rattle.search.specs.Words.{if◌then◌else◌, ◌is◌}
+use Rattle.std.specs.Prelude.{ℕ, ◌-◌, ◌/◌, ◌%◌, ◌≤◌, List, [], ◌∷◌, ltb, get_or, if◌then◌else◌}
+use Rattle.search.specs.Words.{◌is◌}
 use Rattle.search.specs.Table.{table}
 use Rattle.numbers.specs.Limits.{most_processors, most_tasks, most_resources, most_pairs}
 use Rattle.input.specs.Layout.{start_at, periods_at, kinds_at, pairs_at, setup_size, low, high}

@@ -1,7 +1,7 @@
 -- RULES.md, 'Writing blocks': the answer is the first refusal that applies, or 0. The block is written where the
 -- answer is 0; else it stays as lent.
-use Rattle.std.specs.Prelude.{ℕ, List, length}
-use Rattle.search.specs.Words.{if◌then◌else◌, ◌is◌, ◌isn't◌}
+use Rattle.std.specs.Prelude.{ℕ, List, length, if◌then◌else◌}
+use Rattle.search.specs.Words.{◌is◌, ◌isn't◌}
 use Rattle.numbers.specs.Refusals.{room_wrong}
 use Rattle.numbers.specs.Rows.{Row, ◌when◌, ◌otherwise◌, first_of}
 use Rattle.blocks.specs.Sizes.{block_size}

@@ -1,4 +1,6 @@
 // The writer of block files: a set-up or up to 84 events into a lent block, which the reader reads back.
+#![tactic(auto)]
+
 mod event_blocks;
 mod sealing;
 mod setup_blocks;
@@ -9,7 +11,7 @@ use input::Event;
 pub use setup_blocks::write_setup;
 
 // The events of one block. Places past the count are not read.
-#[derive(Drop)]
+#[derive(Clone, Copy)]
 pub struct Events {
     pub of: [Event; Events::MOST],
     pub count: usize,
