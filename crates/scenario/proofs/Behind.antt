@@ -8,7 +8,8 @@ use native.Mathlib.Omega.{arith}
 use lib.Dec.{leb}
 use lib.ListN.{drop}
 use borrow.Author.Tests.{leb-false, eq-eqb, ne_eqb}
-use Rattle.search.specs.Words.{if◌then◌else◌, ◌is◌}
+use Rattle.std.specs.Prelude.{if◌then◌else◌}
+use Rattle.search.specs.Words.{◌is◌}
 use Rattle.numbers.specs.Rows.{first_of}
 use Rattle.scenario.specs.Words.{word}
 use Rattle.scenario.specs.Items.{unknown, no_more, item_count, entry_at, sort_at, argument_at, wrong_rows, item_behind}

@@ -6,7 +6,8 @@ use mathlib.Core.List.{List, map}
 use native.Mathlib.Omega.{arith}
 use lib.ListN.{length, get_or, drop, replicate, get_or-map, get_or-eq_default}
 use borrow.Author.Tests.{eqb-true}
-use Rattle.search.specs.Words.{if◌then◌else◌, ◌is◌}
+use Rattle.std.specs.Prelude.{if◌then◌else◌}
+use Rattle.search.specs.Words.{◌is◌}
 use Rattle.search.specs.First.{first}
 use Rattle.search.specs.Texts.{codes, value_behind}
 use Rattle.search.proofs.Tables.{get_d_any}

@@ -7,7 +7,7 @@ use mathlib.Core.List.{List, ◌∷◌}
 use mathlib.Core.Logic.{◌≢◌}
 use lib.Dec.{eqb, leb}
 use borrow.Author.Tests.{eqb-true, eq-eqb, ne_eqb}
-use Rattle.search.specs.Words.{if◌then◌else◌}
+use Rattle.std.specs.Prelude.{if◌then◌else◌}
 use Rattle.search.proofs.Tests.{never}
 use Rattle.input.specs.declared.Event.{Event}
 use Rattle.blocks.specs.Sizes.{most_events}
@@ -89,7 +89,9 @@ module _ (later : Draft → Blocks) where
   answered_zero d next number block h = go (eqb number 0) refl h
     where
       answer : Bool → Taken
-      answer b = if b then record { draft = next; outcome = Written } else record { draft = d; outcome = Refused number }
+      answer b =
+          if b then record { draft = next; outcome = Written } else
+          record { draft = d; outcome = Refused number }
 
       go : (b : Bool) → eqb number 0 ≡ b → (onward (answer b, block)).all ≡ true → number ≡ 0
       go true e h = eqb-true number 0 e

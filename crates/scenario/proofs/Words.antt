@@ -100,7 +100,8 @@ module _ (most : ℕ) (w : List ℕ) where
   unfolding number_in is_number
   number_large h = rw (lt-leb (value_behind 0 w) most h, and-false (length w isn't 0 && are_digits w))
 
-  pub number_good : length w ≢ 0 → are_digits w ≡ true → value_behind 0 w ≤ most → number_in most w ≡ one (value_behind 0 w)
+  pub number_good : length w ≢ 0 → are_digits w ≡ true → value_behind 0 w ≤ most
+      → number_in most w ≡ one (value_behind 0 w)
   unfolding number_in is_number
   number_good d e h = rw (ne_eqb (length w) 0 d, e, le-leb (value_behind 0 w) most h)
 

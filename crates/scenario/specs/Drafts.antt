@@ -1,6 +1,6 @@
 -- RULES.md, 'Scenarios': a file in the making. What each item does to it, and the block that it writes, if any.
-use Rattle.std.specs.Prelude.{ℕ, suc, Bool, true, false, List, leb, set, replicate}
-use Rattle.search.specs.Words.{if◌then◌else◌, ◌is◌, ◌isn't◌}
+use Rattle.std.specs.Prelude.{ℕ, suc, Bool, true, false, List, leb, set, replicate, if◌then◌else◌}
+use Rattle.search.specs.Words.{◌is◌, ◌isn't◌}
 use Rattle.numbers.specs.Limits.{most_tasks, most_resources, most_pairs}
 use Rattle.input.specs.Kinds.{no_event}
 use Rattle.input.specs.Words.{no_setup}

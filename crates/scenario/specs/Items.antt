@@ -1,7 +1,7 @@
 -- RULES.md, 'Scenarios': the grammar of a scenario. The items, and the one that a line is.
-use Rattle.std.specs.Prelude.{ℕ, true, false, not, ◌||◌, List, [], ◌∷◌, leb, length, get_or, drop}
+use Rattle.std.specs.Prelude.{ℕ, true, false, not, ◌||◌, List, [], ◌∷◌, leb, length, get_or, drop, if◌then◌else◌}
 use Prim.Native.String.{String}
-use Rattle.search.specs.Words.{if◌then◌else◌, ◌is◌}
+use Rattle.search.specs.Words.{◌is◌}
 use Rattle.search.specs.First.{first}
 use Rattle.numbers.specs.Rows.{Row, ◌when◌, ◌otherwise◌, first_of}
 use Rattle.search.specs.Texts.{codes, value_behind}
@@ -123,7 +123,7 @@ no_entry = entry "" [] (λ v. Wrong unknown)
 unfoldable pub entry_at : ℕ → Entry
 entry_at i = get_or items i no_entry
 
--- the item with a name; `itemCount` where there is none
+-- the item with a name; `item_count` where there is none
 unfoldable pub item_named : List ℕ → ℕ
 item_named w = first (λ i. are_same w (entry_at i).name) 0 item_count
 
@@ -149,7 +149,9 @@ module _ (i : ℕ) (rest : List ℕ) where
 
   -- what the line says, its first word naming item i; or what is wrong with it
   unfoldable pub item_behind : Item
-  item_behind = if first_of wrong_rows is 0 then (entry_at i).says (λ k. (argument_at k).value) else Wrong (first_of wrong_rows)
+  item_behind =
+      if first_of wrong_rows is 0 then (entry_at i).says (λ k. (argument_at k).value) else
+      Wrong (first_of wrong_rows)
 
 -- the item of what is said on a line
 unfoldable pub item_in : List ℕ → Item

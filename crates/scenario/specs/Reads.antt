@@ -27,7 +27,8 @@ event_item = 10
 -- the four values fit the sorts of item i's words
 abbrev pub Fit : ℕ → ℕ → ℕ → ℕ → ℕ → Type 0
 Fit i a b c d =
-    (a ≤ most_of (sort_at i 0)) × (b ≤ most_of (sort_at i 1)) × (c ≤ most_of (sort_at i 2)) × (d ≤ most_of (sort_at i 3))
+    (a ≤ most_of (sort_at i 0)) × (b ≤ most_of (sort_at i 1)) × (c ≤ most_of (sort_at i 2)) ×
+    (d ≤ most_of (sort_at i 3))
 
 -- `item` is what item i says with the four values
 abbrev pub Says : ℕ → ℕ → ℕ → ℕ → ℕ → Item → Type 0

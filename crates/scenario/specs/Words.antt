@@ -1,7 +1,7 @@
 -- A line of a scenario: what is read of it, and its words.
-use Rattle.std.specs.Prelude.{ℕ, zero, suc, ◌-◌, Bool, true, false, ◌&&◌, ◌||◌, List, [], ◌∷◌, leb, length, take, drop}
-use Rattle.bytes.specs.Bytes.{index_of}
-use Rattle.search.specs.Words.{if◌then◌else◌, ◌is◌, ◌isn't◌}
+use Rattle.std.specs.Prelude.{ℕ, zero, suc, ◌-◌, Bool, true, false, ◌&&◌, ◌||◌, List, [], ◌∷◌, leb, length, take, drop, if◌then◌else◌}
+use Rattle.std.specs.List.{position_or_len}
+use Rattle.search.specs.Words.{◌is◌, ◌isn't◌}
 use Rattle.search.specs.Texts.{value_behind}
 use Rattle.input.specs.Layout.{byte}
 use Rattle.input.specs.Words.{within}
@@ -30,7 +30,7 @@ unended_length line = if byte line (length line - 1) is carriage_return then len
 unfoldable pub said : List ℕ → List ℕ
 said line =
     let unended = take (unended_length line) line in
-    take (index_of hash unended) unended
+    take (position_or_len (λ c. c is hash) unended) unended
 
 -- a space or a tab
 abbrev pub is_blank : ℕ → Bool

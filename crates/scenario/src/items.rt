@@ -1,6 +1,5 @@
 // The items of a scenario, and the one that a line is.
-ghost use Rattle.std.specs.Prelude.{◌≡◌, ◌%◌, ◌≤◌, ◌<◌, not, length, drop};
-ghost use Rattle.search.specs.Words.{if◌then◌else◌};
+ghost use Rattle.std.specs.Prelude.{◌≡◌, ◌%◌, ◌≤◌, ◌<◌, not, length, drop, if◌then◌else◌};
 ghost use Rattle.scenario.specs.Items.{item_count, item_named, item_behind, item_in, item_of};
 ghost use Rattle.scenario.specs.Reads.{form_of, arrive_item, event_item, Fit, Says};
 ghost use Rattle.scenario.specs.Items as spec;

@@ -1,4 +1,6 @@
 // Scenarios: plain texts with one item a line, and the block files that they describe.
+#![tactic(auto)]
+
 mod drafts;
 mod items;
 mod reading;
@@ -10,7 +12,7 @@ pub use items::read_line;
 use writer::Events;
 
 // What a line of a scenario says. A wrong one carries its reason.
-#[derive(Drop)]
+#[derive(Clone, Copy)]
 pub enum Item {
     Blank,
     Processors(u32),
@@ -54,18 +56,18 @@ impl Form {
 }
 
 // The sorts of the four words that may follow an item's name.
-#[derive(Drop)]
+#[derive(Clone, Copy)]
 pub struct Form(pub u8, pub u8, pub u8, pub u8);
 
 // A word as one of a sort: whether it is one, and its value.
-#[derive(Drop)]
+#[derive(Clone, Copy)]
 struct Argument {
     right: bool,
     value: u32,
 }
 
 // An argument that was read from a line, and the place where its word ends.
-#[derive(Drop)]
+#[derive(Clone, Copy)]
 struct Read {
     argument: Argument,
     end: usize,
@@ -73,7 +75,7 @@ struct Read {
 
 // A file in the making: its set-up so far; whether its processors and its start are given; the index of the block
 // being filled, 0 while the set-up is open; and the events of that block.
-#[derive(Drop)]
+#[derive(Clone, Copy)]
 pub struct Draft {
     pub setup: Setup,
     pub sized: bool,
@@ -84,7 +86,7 @@ pub struct Draft {
 
 // What became of an item: the draft keeps it, or has written a block into the lent buffer; the item is faulty, with
 // the reason; or the writer refused the block, with its number. The last two leave the draft as it was.
-#[derive(Drop)]
+#[derive(Clone, Copy)]
 pub enum Outcome {
     Kept,
     Written,
@@ -93,7 +95,7 @@ pub enum Outcome {
 }
 
 // The draft after an item, and what became of the item.
-#[derive(Drop)]
+#[derive(Clone, Copy)]
 pub struct Taken {
     pub draft: Draft,
     pub outcome: Outcome,

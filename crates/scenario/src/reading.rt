@@ -1,6 +1,8 @@
 // What a line of a scenario holds: its words, and what each of them is.
 ghost use Rattle.std.specs.Prelude.{◌≡◌, ◌+◌, ◌-◌, ◌≤◌, ◌<◌, length, take, drop};
-ghost use Rattle.scenario.specs.Words.{unended_length, said, blanks, letters, are_same, is_blank, is_digit};
+ghost use Rattle.std.specs.List.{position_or_len};
+ghost use Rattle.search.specs.Words.{◌is◌};
+ghost use Rattle.scenario.specs.Words.{hash, unended_length, said, blanks, letters, are_same, is_blank, is_digit};
 ghost use Rattle.scenario.specs.Items.{most_of, number_in, tick_in, kind_in, argument_of};
 ghost use Rattle.scenario.specs.Items as spec;
 ghost use Rattle.scenario.specs.Reads.{IsRead};
@@ -38,7 +40,20 @@ pub fn said_length(line: &[u8]) -> usize
     ensures { (take result line.now ≡ said line.now) × (result ≤ length line.now) }
 {
     let len = unended_length(line);
-    bytes::scan::find(line, 0, len, HASH)
+    hash_before(line, len)
+}
+
+// The first place before `len` that holds the sign of a remark, or `len`.
+fn hash_before(line: &[u8], len: usize) -> usize
+    requires { len ≤ length line.now }
+    ensures { result ≡ position_or_len (λ c. c is hash) (take len line.now) }
+{
+    for i in 0..len {
+        if line[i] == HASH {
+            return i;
+        }
+    }
+    len
 }
 
 // A space or a tab.

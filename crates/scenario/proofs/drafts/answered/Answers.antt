@@ -1,0 +1,12 @@
+-- `answered` meets its contract. Assumes nothing.
+use borrow.Author.Tests.{eq-eqb, ne_eqb}
+use Rattle.scenario.specs.Drafts.{answered}
+use Rattle.scenario.proofs.drafts.answered.Goals as goal
+
+pub returns-then-number-eq0 : goal.returns-then-number-eq0
+unfolding answered
+returns-then-number-eq0 c = rw (eq-eqb _ _ c.if-number-eq0.true)
+
+pub returns-else-number-eq0 : goal.returns-else-number-eq0
+unfolding answered
+returns-else-number-eq0 c = rw (ne_eqb _ _ c.if-number-eq0.false)
