@@ -1,6 +1,6 @@
 -- RULES.md, 'Printing': lines by call, each into a lent buffer, with its number and its length.
-use Rattle.std.specs.Prelude.{ℕ, ◌+◌, ◌*◌, min, ◌≡◌, List, [], ◌++◌, ltb, length}
-use Rattle.search.specs.Words.{if◌then◌else◌, ◌is◌}
+use Rattle.std.specs.Prelude.{ℕ, ◌+◌, ◌*◌, min, ◌≡◌, List, [], ◌++◌, ltb, length, if◌then◌else◌}
+use Rattle.search.specs.Words.{◌is◌}
 use Rattle.numbers.specs.Refusals.{buffer_short}
 use Rattle.numbers.specs.Rows.{Row, ◌when◌, ◌otherwise◌, first_of}
 use Rattle.numbers.specs.Limits.{most_processors}

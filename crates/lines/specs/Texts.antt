@@ -1,6 +1,6 @@
 -- RULES.md, 'Printing': the text of each line.
-use Rattle.std.specs.Prelude.{ℕ, List, ◌++◌, length, get_or}
-use Rattle.search.specs.Words.{if◌then◌else◌, ◌is◌}
+use Rattle.std.specs.Prelude.{ℕ, List, ◌++◌, length, get_or, if◌then◌else◌}
+use Rattle.search.specs.Words.{◌is◌}
 use Rattle.numbers.specs.Limits.{nothing}
 use Rattle.search.specs.Texts.{codes, decimal, numbered, each_text}
 

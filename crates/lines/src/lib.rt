@@ -1,4 +1,6 @@
 // The printed lines, each into a lent buffer: from numbers alone, and of a state.
+#![tactic(auto)]
+
 mod of_numbers;
 mod of_states;
 mod writing;
@@ -7,7 +9,7 @@ pub use of_numbers::{block_line, counts_line, places_line, setup_line, totals_li
 pub use of_states::{event_line, first_line, task_line};
 
 // A line's number from the list, and its length: 0 where it is refused.
-#[derive(Drop)]
+#[derive(Clone, Copy)]
 pub struct Line {
     pub number: u8,
     pub len: usize,
