@@ -1,6 +1,6 @@
 -- RULES.md, 'Printing', of a whole file: all the text, and the state at its end, by the rules alone.
-use Rattle.std.specs.Prelude.{ℕ, suc, ◌+◌, ◌&&◌, List, [], ◌∷◌, ◌++◌, length}
-use Rattle.search.specs.Words.{if◌then◌else◌, ◌is◌}
+use Rattle.std.specs.Prelude.{ℕ, suc, ◌+◌, ◌&&◌, List, [], ◌∷◌, ◌++◌, length, if◌then◌else◌}
+use Rattle.search.specs.Words.{◌is◌}
 use Rattle.search.specs.Texts.{codes, decimal, numbered, each_text}
 use Rattle.processors.specs.Words.{link, runs}
 use Rattle.input.specs.Words.{no_setup}

@@ -1,7 +1,7 @@
 -- RULES.md, 'Printing': the page of lines that is printed of each block, and the last page, at the input's end. A
 -- page is given as the session after it and its text.
-use Rattle.std.specs.Prelude.{◌≡◌, ℕ, suc, ◌+◌, ◌*◌, ◌%◌, ◌<◌, ◌≤◌, min, Bool, true, false, ◌↔◌, List, [], length, take, drop, nat_lt}
-use Rattle.search.specs.Words.{if◌then◌else◌, ◌is◌}
+use Rattle.std.specs.Prelude.{◌≡◌, ℕ, suc, ◌+◌, ◌*◌, ◌%◌, ◌<◌, ◌≤◌, min, Bool, true, false, ◌↔◌, List, [], length, take, drop, nat_lt, if◌then◌else◌}
+use Rattle.search.specs.Words.{◌is◌}
 use Rattle.numbers.specs.Refusals.{size_wrong, buffer_short}
 use Rattle.numbers.specs.Limits.{most_tasks}
 use Rattle.input.specs.Layout.{setup_in, event_count}

@@ -1,4 +1,6 @@
 // Stepping through a block file: a page of lines for each block, and a last one at the input's end.
+#![tactic(auto)]
+
 mod printing;
 mod writing;
 
@@ -9,7 +11,7 @@ use protocol::State;
 
 // What is kept between two blocks: the index of the next one, the number of events so far, whether the output has
 // ended, the state, and whether a block or the set-up was refused, which ends the output.
-#[derive(Drop)]
+#[derive(Clone, Copy)]
 pub struct Session {
     pub index: u64,
     pub events: u64,
@@ -19,7 +21,7 @@ pub struct Session {
 }
 
 // A page: the session after it, its number from the list (36: the buffer is too short) and the length of its text.
-#[derive(Drop)]
+#[derive(Clone, Copy)]
 pub struct Page {
     pub session: Session,
     pub number: u8,

@@ -1,11 +1,11 @@
 // A page of lines: what is printed of a block, and at the input's end.
 ghost use Rattle.std.specs.Prelude.{◌≡◌, ◌+◌, ◌<◌, ◌≤◌, length};
 ghost use Rattle.input.specs.Layout.{setup_in, event_count};
-ghost use Rattle.protocol.specs.Events.{begin as beginRule};
+ghost use Rattle.protocol.specs.Events.{begin as begin_rule};
 ghost use Rattle.locking.specs.Playing.{played};
 ghost use Rattle.blocks.specs.Sizes.{most_events};
 ghost use Rattle.blocks.specs.Verdicts.{verdict};
-ghost use Rattle.pages.specs.Pages.{beginning, wide, ended as endedHere, setup_page, event_page, block_page, last_page, page_limit, paged, page_into};
+ghost use Rattle.pages.specs.Pages.{beginning, wide, ended as ended_here, setup_page, event_page, block_page, last_page, page_limit, paged, page_into};
 
 use crate::writing::{put_events, put_tasks};
 use crate::{Page, Session};
@@ -29,7 +29,7 @@ pub fn begin() -> Session
 
 // The page that ends the output, with a refusal or without.
 fn ended(x: Session, refused: bool, len: usize) -> Page
-    ensures { result ≡ record { session = endedHere x refused; number = 0; len = len } }
+    ensures { result ≡ record { session = ended_here x refused; number = 0; len = len } }
 {
     let state = x.state;
     let session = Session {
@@ -50,7 +50,7 @@ fn ended(x: Session, refused: bool, len: usize) -> Page
 fn setup_page(x: Session, part: &[u8], out: &mut [u8]) -> Page
     requires { page_limit ≤ length out.old }
     ensures { ((result, out.new)
-        ≡ paged (setup_page x (beginRule (setup_in part.now))) out.old)
+        ≡ paged (setup_page x (begin_rule (setup_in part.now))) out.old)
         × (result.len ≤ length out.new) }
 {
     let reply = states::begin(input::setup_from(part));
@@ -101,7 +101,7 @@ fn event_page(x: Session, part: &[u8], out: &mut [u8], plain: bool) -> Page
     let len = put_events(out, &written, count, setup.processors, x.events);
     let session = Session {
         index: x.index + 1,
-        events: std::num::wrapping_add_u64(x.events, count as u64),
+        events: x.events.wrapping_add(count as u64),
         over: false,
         state,
         refused: false,

@@ -36,7 +36,7 @@ pub fn put_events(
 {
     let mut at = 0;
     for i in 0..count {
-        let number = std::num::wrapping_add_u64(events, i as u64 + 1);
+        let number = events.wrapping_add(i as u64 + 1);
         let from = Reply::SNAPSHOT * i;
         let end = from + Reply::SNAPSHOT;
         at = put_event(out, at, number, processors, &written[from..end]);
