@@ -6,7 +6,7 @@ use Rattle.search.specs.Below.{all_below, any_below, how_many}
 use Rattle.search.specs.First.{first}
 use Rattle.search.specs.Best.{best, better}
 use Rattle.search.specs.Table.{table}
-use Rattle.queue.specs.Waiting.{waiting, waiter as queued, empty, appended, moved_up, without_first, place_of, is_clear as tidyAt, is_tidy}
+use Rattle.queue.specs.Waiting.{waiting, waiter as queued, empty, appended, moved_up, without_first, place_of, is_clear as tidy_at, is_tidy}
 use Rattle.processors.specs.Words.{rank_of, mode_of, link_of, run_of, none_linked}
 use Rattle.scheduler.specs.Arriving.{lowest_free, lowest_linked, displacing, arriving_on, taken, arriving as linking}
 use Rattle.scheduler.specs.Leaving.{becoming_preemptable, next_task, filling, refilling, leaving_from, leaving, giving_way}
@@ -69,7 +69,7 @@ pub printed_case : file_text (blocks_of printed_bytes)
     ++ codes "task 0 13 5 0 0 0 0\n"
     ++ codes "task 1 13 0 0 3 0 0\n"
     ++ codes "task 2 3 0 7 0 0 0\n"
-unfolding all_below any_below how_many first best better table waiting queued empty appended moved_up without_first place_of tidyAt is_tidy rank_of mode_of link_of run_of none_linked lowest_free lowest_linked displacing arriving_on taken linking becoming_preemptable next_task filling refilling leaving_from leaving giving_way is_placed setup_rows setup_refusal joined_by names_after names group_of below cleared empty_from is_clear fields_of stand asked deadline depth request holder len waiter own least_of long_held effective short_open jobs situation is_foremost total_for clock_sound times_sound requests_sound waiting_sound group_sound empty_sound sound misplaced event_rows judge open_of_kind opens enqueues closes frees dequeues passes arrives leaves becomes_preemptable gives_way arrive_event finish_event request_event complete_event charged act step_by step fresh begin start_in periods_in kinds_in side_in setup_in event_in event_count run_by run sums is_checked is_blank is_setup_filled is_event_filled block_rows verdict digits each_text first_text task_text task_line_text block_text setup_text blocks_of events_from answer_text end_text file_text
+unfolding all_below any_below how_many first best better table waiting queued empty appended moved_up without_first place_of tidy_at is_tidy rank_of mode_of link_of run_of none_linked lowest_free lowest_linked displacing arriving_on taken linking becoming_preemptable next_task filling refilling leaving_from leaving giving_way is_placed setup_rows setup_refusal joined_by names_after names group_of below cleared empty_from is_clear fields_of stand asked deadline depth request holder len waiter own least_of long_held effective short_open jobs situation is_foremost total_for clock_sound times_sound requests_sound waiting_sound group_sound empty_sound sound misplaced event_rows judge open_of_kind opens enqueues closes frees dequeues passes arrives leaves becomes_preemptable gives_way arrive_event finish_event request_event complete_event charged act step_by step fresh begin start_in periods_in kinds_in side_in setup_in event_in event_count run_by run sums is_checked is_blank is_setup_filled is_event_filled block_rows verdict digits each_text first_text task_text task_line_text block_text setup_text blocks_of events_from answer_text end_text file_text
 printed_case = refl
 
 -- its two blocks and its set-up are accepted, so the theorem about accepted files speaks of it
@@ -80,7 +80,7 @@ pub record Computed : Type 0 where
   pub second : refusal_of (get_or (blocks_of printed_bytes) 1 []) 1 ≡ 0
 
 pub computed : Computed
-unfolding all_below any_below how_many first best better table waiting queued empty appended moved_up without_first place_of tidyAt is_tidy rank_of mode_of link_of run_of none_linked lowest_free lowest_linked displacing arriving_on taken linking becoming_preemptable next_task filling refilling leaving_from leaving giving_way is_placed setup_rows setup_refusal joined_by names_after names group_of below cleared empty_from is_clear fields_of stand asked deadline depth request holder len waiter own least_of long_held effective short_open jobs situation is_foremost total_for clock_sound times_sound requests_sound waiting_sound group_sound empty_sound sound misplaced event_rows judge open_of_kind opens enqueues closes frees dequeues passes arrives leaves becomes_preemptable gives_way arrive_event finish_event request_event complete_event charged act step_by step fresh begin start_in periods_in kinds_in side_in setup_in event_in event_count run_by run sums is_checked is_blank is_setup_filled is_event_filled block_rows verdict digits each_text first_text task_text task_line_text block_text setup_text blocks_of events_from answer_text end_text file_text
+unfolding all_below any_below how_many first best better table waiting queued empty appended moved_up without_first place_of tidy_at is_tidy rank_of mode_of link_of run_of none_linked lowest_free lowest_linked displacing arriving_on taken linking becoming_preemptable next_task filling refilling leaving_from leaving giving_way is_placed setup_rows setup_refusal joined_by names_after names group_of below cleared empty_from is_clear fields_of stand asked deadline depth request holder len waiter own least_of long_held effective short_open jobs situation is_foremost total_for clock_sound times_sound requests_sound waiting_sound group_sound empty_sound sound misplaced event_rows judge open_of_kind opens enqueues closes frees dequeues passes arrives leaves becomes_preemptable gives_way arrive_event finish_event request_event complete_event charged act step_by step fresh begin start_in periods_in kinds_in side_in setup_in event_in event_count run_by run sums is_checked is_blank is_setup_filled is_event_filled block_rows verdict digits each_text first_text task_text task_line_text block_text setup_text blocks_of events_from answer_text end_text file_text
 computed = record { two = refl; opens = refl; setup = refl; second = refl }
 
 follows : (i : ℕ) → i < length (blocks_of printed_bytes) → refusal_of (get_or (blocks_of printed_bytes) i []) i ≡ 0

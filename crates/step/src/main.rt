@@ -1,81 +1,104 @@
 // The stepping program: blocks from standard input, a page of lines for each to standard output. What went wrong is
 // said in one line on standard error: `not read`, `not written`, or `refused`, of a block or the set-up.
+#![tactic(auto)]
+
 use blocks::Block;
-use libc::{STDERR_FILENO, STDIN_FILENO, STDOUT_FILENO};
 use pages::{Page, Session};
+use std::env::Env;
+use std::io;
+use std::io::{ErrorKind, Read};
+use std::process::ExitCode;
 
 // The argument that asks for the plain engine.
 const PLAIN: [u8; 7] = *b"--plain";
 
-// The session after a block, and whether the program's work ends there.
-#[derive(Drop)]
-struct Taken {
-    session: Session,
-    over: bool,
+// Why the work ended before the output did: a read or a write failed, or nobody reads the output any more.
+#[derive(Clone, Copy)]
+enum Failure {
+    NotRead,
+    NotWritten,
+    Stopped,
 }
 
-// Whether the input cannot be read any more. At its end it still can.
-fn is_unreadable() -> bool {
-    let mut byte = [0u8; 1];
-    libc::read(STDIN_FILENO, &mut byte) < 0
-}
-
-// Writes a page; the session after it says whether something was refused. Returns whether the work ends.
-fn write_page(text: &[u8], session: Session) -> bool {
-    if !io::write_all(STDOUT_FILENO, text) {
-        io::write_all(STDERR_FILENO, b"not written\n");
-        return true;
+// What a write that failed is.
+fn write_failure(error: io::Error) -> Failure {
+    if error.kind() == ErrorKind::BrokenPipe {
+        Failure::Stopped
+    } else {
+        Failure::NotWritten
     }
+}
+
+// Says what went wrong. Where not even that can be written, nobody is told.
+fn say(rt: &impl Eprint, what: &str) {
+    let _ = eprintln!(rt; "{what}");
+}
+
+// Writes a page; the session after it says whether something was refused.
+fn write_page(rt: &(impl Print + Eprint), text: &[u8], session: Session) -> Result<(), Failure> {
+    rt.write_all(text).map_err(write_failure)?;
     if session.refused {
-        io::write_all(STDERR_FILENO, b"refused\n");
+        say(rt, "refused");
     }
-    session.over
+    Ok(())
 }
 
-// Reads the next block, writes its page, and returns the session after it. A short block is the last one, so the byte
-// that `is_unreadable` reads after it belongs to no other block.
-fn take_block(session: Session, block: &mut [u8], out: &mut [u8], plain: bool) -> Taken {
-    let got = io::read_full(STDIN_FILENO, block);
-    if got < block.len() && is_unreadable() {
-        io::write_all(STDERR_FILENO, b"not read\n");
-        return Taken {
-            session,
-            over: true,
-        };
-    }
+// Reads the next block, writes its page, and returns the session after it. A short block is the last one.
+fn take_block(
+    rt: &(impl Print + Eprint),
+    input: &mut impl Read,
+    session: Session,
+    block: &mut [u8],
+    out: &mut [u8],
+    plain: bool,
+) -> Result<Session, Failure> {
+    let got = streams::read_full(input, block).map_err(|_| Failure::NotRead)?;
     let page = pages::next_page(session, &block[..got], out, plain);
-    let len = page.len;
-    let next = page.session;
-    Taken {
-        session: next,
-        over: write_page(&out[0..len], next),
-    }
+    write_page(rt, &out[..page.len], page.session)?;
+    Ok(page.session)
 }
 
-// Whether the plain engine is asked for: the program's first argument is `--plain`.
-fn is_plain_asked() -> bool {
-    let mut word = [0u8; 8];
-    let got = os::arg(1, &mut word);
-    let mut same = got == PLAIN.len();
-    for i in 0..PLAIN.len() {
-        same = same & (word[i] == PLAIN[i]);
-    }
-    same
-}
-
-fn main() {
-    let plain = is_plain_asked();
+// Takes one block after the other, until the output ends.
+fn take_blocks(
+    rt: &(impl Print + Eprint),
+    input: &mut impl Read,
+    plain: bool,
+) -> Result<(), Failure> {
     let mut block = [0u8; Block::SIZE];
     let mut out = [0u8; Page::LIMIT];
     let mut session = pages::begin();
-    let mut over = false;
     // One block more than a file may have, and the input's end.
-    let mut left = Block::LAST_INDEX + 3;
-    while left > 0 && !over {
-        let taken = take_block(session, &mut block, &mut out, plain);
-        let next = taken.session;
-        session = next;
-        over = taken.over;
-        left -= 1;
+    for _ in 0..Block::LAST_INDEX + 3 {
+        session = take_block(rt, input, session, &mut block, &mut out, plain)?;
+        if session.over {
+            break;
+        }
+    }
+    Ok(())
+}
+
+// Says why the work ended, and returns the program's exit status.
+fn tell(rt: &impl Eprint, failure: Failure) -> ExitCode {
+    match failure {
+        Failure::NotRead => say(rt, "not read"),
+        Failure::NotWritten => say(rt, "not written"),
+        Failure::Stopped => return ExitCode::from(streams::STOPPED),
+    }
+    ExitCode::SUCCESS
+}
+
+// Whether the plain engine is asked for: the program's first argument is `--plain`.
+fn is_plain_asked(rt: &impl Env) -> bool {
+    let mut word = [0u8; PLAIN.len() + 1];
+    match rt.arg(1, &mut word) {
+        Ok(len) => word[..len] == PLAIN[..],
+        Err(_) => false,
+    }
+}
+
+fn main(rt: HostRuntime) -> ExitCode {
+    match take_blocks(&rt, &mut rt.reader(), is_plain_asked(&rt)) {
+        Ok(()) => ExitCode::SUCCESS,
+        Err(failure) => tell(&rt, failure),
     }
 }
