@@ -4,12 +4,15 @@
 // The input: one byte, how many blocks of events are played first; the block of the set-up; those blocks; the block
 // that the calls are about; then orders, three bytes each, up to the input's end: what is called, and how many
 // hundred times, little-endian.
+#![tactic(auto)]
+
 ghost use Rattle.std.specs.Prelude.{◌≡◌, length};
 ghost use Rattle.blocks.specs.Sizes.{block_size};
 
 use blocks::Block;
-use libc::{STDIN_FILENO, STDOUT_FILENO};
 use protocol::{Reply, State};
+use std::io;
+use std::io::Read;
 
 // What is called, as an order says it: a step, a sound test, a block's check, or the verdict on it. For any other byte
 // nothing is called.
@@ -27,12 +30,12 @@ const CALLS: u64 = 100;
 // More orders than an input has.
 const MOST_ORDERS: u64 = 1000;
 
-// The next block of the input. What is missing of it reads 0, and such a block is refused.
-fn read_block() -> [u8; Block::SIZE]
+// The next block of the input. What is missing of it reads 0, also where a read failed, and such a block is refused.
+fn read_block(input: &mut impl Read) -> [u8; Block::SIZE]
     ensures { length result ≡ block_size }
 {
     let mut block = [0u8; Block::SIZE];
-    io::read_full(STDIN_FILENO, &mut block);
+    let _ = streams::read_full(input, &mut block);
     block
 }
 
@@ -50,23 +53,18 @@ fn play_block(state: State, block: &[u8], index: u64) -> State {
 }
 
 // Plays the next blocks of the input, which follow the set-up's.
-fn play_blocks(begun: State, count: u64) -> State {
+fn play_blocks(input: &mut impl Read, begun: State, count: u64) -> State {
     let mut state = begun;
     for i in 0..count {
-        let block = read_block();
-        let next = play_block(state, &block, i + 1);
-        state = next;
+        let block = read_block(input);
+        state = play_block(state, &block, i + 1);
     }
     state
 }
 
 // One more, if a call passed.
 fn count_if(passed: bool, count: u64) -> u64 {
-    if passed {
-        std::num::wrapping_add_u64(count, 1)
-    } else {
-        count
-    }
+    if passed { count.wrapping_add(1) } else { count }
 }
 
 // Steps through the events of a part, each from the state before it, and after the last one again from the begun
@@ -85,7 +83,7 @@ fn make_steps(begun: State, part: &[u8], calls: u64) -> u64 {
         let next = reply.state;
         accepted = count_if(reply.answer == 0, accepted);
         state = next;
-        at = std::num::wrapping_add_usize(at, 1);
+        at = at.wrapping_add(1);
     }
     accepted
 }
@@ -96,7 +94,7 @@ fn make_tests(begun: State, calls: u64) -> u64 {
     let mut state = begun;
     let mut passed = 0;
     for _ in 0..calls {
-        state.clock = std::num::wrapping_add_u32(state.clock, 1);
+        state.clock = state.clock.wrapping_add(1);
         passed = count_if(soundness::is_sound(state), passed);
     }
     passed
@@ -148,32 +146,44 @@ fn follow(what: u8, state: State, block: [u8; Block::SIZE], index: u64, calls: u
     }
 }
 
-// Follows the next order and prints how many of its calls passed; returns false at the input's end.
-fn take_order(state: State, block: [u8; Block::SIZE], index: u64) -> bool {
+// The next order, where the input has a whole one.
+fn read_order(input: &mut impl Read) -> Option<[u8; 3]> {
     let mut order = [0u8; 3];
-    let got = io::read_full(STDIN_FILENO, &mut order);
-    if got < 3 {
-        return false;
-    }
-    let calls = CALLS * (input::word_of(order[1], order[2]) as u64);
-    io::print_decimal(STDOUT_FILENO, follow(order[0], state, block, index, calls));
-    io::write_all(STDOUT_FILENO, b"\n");
-    true
-}
-
-// Follows the orders up to the input's end.
-fn follow_all(state: State, block: [u8; Block::SIZE], index: u64) {
-    let mut left = MOST_ORDERS;
-    while left > 0 && take_order(state, block, index) {
-        left -= 1;
+    match streams::read_full(input, &mut order) {
+        Ok(3) => Some(order),
+        _ => None,
     }
 }
 
-fn main() {
+// Follows the orders up to the input's end, and prints of each how many of its calls passed.
+fn follow_all(
+    rt: &impl Print,
+    input: &mut impl Read,
+    state: State,
+    block: [u8; Block::SIZE],
+    index: u64,
+) -> io::Result<()> {
+    for _ in 0..MOST_ORDERS {
+        let Some(order) = read_order(input) else {
+            break;
+        };
+        let calls = CALLS * u64::from(input::word_of(order[1], order[2]));
+        println!(rt; "{}", follow(order[0], state, block, index, calls))?;
+    }
+    Ok(())
+}
+
+// Follows the orders of a whole input.
+fn run(rt: &impl Print, input: &mut impl Read) -> io::Result<()> {
     let mut head = [0u8; 1];
-    io::read_full(STDIN_FILENO, &mut head);
-    let played = input::byte_at(&head, 0) as u64;
-    let first = read_block();
-    let state = play_blocks(begin_from(&first), played);
-    follow_all(state, read_block(), played + 1);
+    let _ = streams::read_full(input, &mut head);
+    let played = u64::from(head[0]);
+    let first = read_block(input);
+    let state = play_blocks(input, begin_from(&first), played);
+    let last = read_block(input);
+    follow_all(rt, input, state, last, played + 1)
+}
+
+fn main(rt: HostRuntime) -> io::Result<()> {
+    run(&rt, &mut rt.reader())
 }
