@@ -1,12 +1,16 @@
 // The maker of block files: a scenario from standard input, the blocks of its file to standard output. What is wrong
 // with the scenario goes to standard error, and ends the output.
+#![tactic(auto)]
+
 mod faults;
 
-ghost use Rattle.std.specs.Prelude.{◌≤◌, length};
+ghost use Rattle.std.specs.Prelude.{◌≤◌, ◌<◌, IfOk, IfSome, length};
 
 use blocks::Block;
-use libc::{STDIN_FILENO, STDOUT_FILENO};
 use scenario::{Draft, Item, Outcome};
+use std::io;
+use std::io::{ErrorKind, Read, Write};
+use std::process::ExitCode;
 
 // What ends a line.
 const LINE_FEED: u8 = 10;
@@ -17,152 +21,180 @@ const TEXT: usize = 65536;
 // More turns than any text takes: every turn but the last reads a byte or more.
 const MOST_TURNS: u64 = u64::MAX;
 
-// A scenario partly read: the draft of its file, how many lines were read, and whether the output has ended.
-#[derive(Drop)]
+// A scenario partly read: the draft of its file, and how many lines were read.
+#[derive(Clone, Copy)]
 struct Making {
     draft: Draft,
     lines: u64,
-    over: bool,
 }
 
 // The scenario after the whole lines in a buffer, and the place of the line that is not whole.
-#[derive(Drop)]
+#[derive(Clone, Copy)]
 struct Rest {
     making: Making,
     at: usize,
 }
 
-// How much of the buffer is held after a read, and whether the read failed.
-#[derive(Drop)]
-struct More {
-    held: usize,
-    failed: bool,
+// Why the output ends before the scenario does: something is wrong, which standard error says, or nobody reads the
+// output any more.
+#[derive(Clone, Copy)]
+enum Ended {
+    Said,
+    Stopped,
 }
 
-// Writes the block that an item completed, or says what is wrong with the item; returns whether the output has ended.
-fn answer(outcome: Outcome, lines: u64, line: &[u8], block: &[u8]) -> bool {
+// A block could not be written.
+fn end_unwritten(told: &mut impl Write, error: io::Error) -> Ended {
+    if error.kind() == ErrorKind::BrokenPipe {
+        return Ended::Stopped;
+    }
+    faults::say_unwritten(told);
+    Ended::Said
+}
+
+// Writes the block that an item completed, or says what is wrong with the item.
+fn answer(
+    out: &mut impl Write,
+    told: &mut impl Write,
+    outcome: Outcome,
+    lines: u64,
+    line: &[u8],
+    block: &[u8],
+) -> Result<(), Ended> {
     match outcome {
-        Outcome::Kept => false,
-        Outcome::Written => {
-            let written = io::write_all(STDOUT_FILENO, block);
-            if !written {
-                faults::say_unwritten();
-            }
-            !written
-        }
+        Outcome::Kept => Ok(()),
+        Outcome::Written => match out.write_all(block) {
+            Ok(()) => Ok(()),
+            Err(error) => Err(end_unwritten(told, error)),
+        },
         Outcome::Faulty(reason) => {
-            faults::say_faulty(lines, line, reason);
-            true
+            faults::say_faulty(told, lines, line, reason);
+            Err(Ended::Said)
         }
         Outcome::Refused(number) => {
-            faults::say_refused(number);
-            true
+            faults::say_refused(told, number);
+            Err(Ended::Said)
         }
     }
 }
 
 // Takes one line.
-fn take_line(making: Making, line: &[u8]) -> Making {
+fn take_line(
+    out: &mut impl Write,
+    told: &mut impl Write,
+    making: Making,
+    line: &[u8],
+) -> Result<Making, Ended> {
     let mut block = [0u8; Block::SIZE];
-    let lines = std::num::wrapping_add_u64(making.lines, 1);
+    let lines = making.lines.wrapping_add(1);
     let taken = scenario::take_item(making.draft, scenario::read_line(line), &mut block);
-    let draft = taken.draft;
-    let outcome = taken.outcome;
-    let over = answer(outcome, lines, line, &block);
-    Making { draft, lines, over }
+    answer(out, told, taken.outcome, lines, line, &block)?;
+    Ok(Making {
+        draft: taken.draft,
+        lines,
+    })
+}
+
+// The length of a text's first line, without its line feed, where that was read.
+fn line_length(text: &[u8]) -> Option<usize>
+    ensures { IfSome result (λ n. n < length text.now) }
+{
+    text.iter().position(|byte| *byte == LINE_FEED)
 }
 
 // Takes each line whose line feed was read.
-fn take_lines(begun: Making, text: &[u8]) -> Rest
-    ensures { result.at ≤ length text.now }
+fn take_lines(
+    out: &mut impl Write,
+    told: &mut impl Write,
+    begun: Making,
+    text: &[u8],
+) -> Result<Rest, Ended>
+    ensures { IfOk result (λ rest. rest.at ≤ length text.now) }
 {
     let mut making = begun;
     let mut at = 0;
-    while at < text.len() && !making.over {
-        let end = bytes::scan::find(text, at, text.len(), LINE_FEED);
-        if end == text.len() {
-            break;
-        }
-        let next = take_line(making, &text[at..end]);
-        making = next;
-        at = end + 1;
+    while let Some(len) = line_length(&text[at..]) {
+        making = take_line(out, told, making, &text[at..at + len])?;
+        at += len + 1;
     }
-    Rest { making, at }
+    Ok(Rest { making, at })
 }
 
 // The end of the text, perhaps within a line; it completes the last block.
-fn take_end(begun: Making, rest: &[u8]) {
-    let mut making = begun;
-    if rest.len() > 0 {
-        let next = take_line(making, rest);
-        making = next;
+fn take_end(
+    out: &mut impl Write,
+    told: &mut impl Write,
+    begun: Making,
+    rest: &[u8],
+) -> Result<(), Ended> {
+    let making = if rest.is_empty() {
+        begun
+    } else {
+        take_line(out, told, begun, rest)?
+    };
+    let mut block = [0u8; Block::SIZE];
+    let taken = scenario::take_item(making.draft, Item::Block, &mut block);
+    match taken.outcome {
+        Outcome::Faulty(reason) => {
+            faults::say_faulty_end(told, reason);
+            Err(Ended::Said)
+        }
+        outcome => answer(out, told, outcome, making.lines, rest, &block),
     }
-    if !making.over {
-        let mut block = [0u8; Block::SIZE];
-        let taken = scenario::take_item(making.draft, Item::Block, &mut block);
-        let outcome = taken.outcome;
-        match outcome {
-            Outcome::Faulty(reason) => faults::say_faulty_end(reason),
-            _ => {
-                answer(outcome, making.lines, rest, &block);
-            }
+}
+
+// Reads more after what is held; returns how much is held then.
+fn read_more(
+    input: &mut impl Read,
+    told: &mut impl Write,
+    text: &mut [u8],
+    held: usize,
+) -> Result<usize, Ended>
+    requires { held ≤ length text.old }
+    ensures more { IfOk result (λ now. held ≤ now) }
+    ensures within { IfOk result (λ now. now ≤ length text.new) }
+{
+    match input.read(&mut text[held..]) {
+        Ok(more) => Ok(held + more),
+        Err(_) => {
+            faults::say_unread(told);
+            Err(Ended::Said)
         }
     }
 }
 
-// Moves the bytes from `from` up to but not at `to` to the front.
-fn move_to_front(text: &mut [u8], from: usize, to: usize)
-    requires { (from ≤ to) × (to ≤ length text.old) }
-{
-    let mut i = 0;
-    while from + i < to {
-        text[i] = text[from + i];
-        i += 1;
-    }
-}
-
-// Reads more after what is held; returns how much is held then, and whether the read failed.
-fn read_more(text: &mut [u8], held: usize) -> More
-    requires { held ≤ length text.old }
-    ensures { (held ≤ result.held) × (result.held ≤ length text.new) }
-{
-    let got = libc::read(STDIN_FILENO, &mut text[held..]);
-    let more = io::count(got, &text[held..]);
-    More {
-        held: held + more,
-        failed: got < 0,
-    }
-}
-
-fn main() {
-    let mut text = io::large_buffer();
+// Makes the file of the whole scenario.
+fn make_file(
+    input: &mut impl Read,
+    out: &mut impl Write,
+    told: &mut impl Write,
+) -> Result<(), Ended> {
+    let mut text = [0u8; TEXT];
     let mut held = 0;
     let mut making = Making {
         draft: scenario::begin(),
         lines: 0,
-        over: false,
     };
-    let mut turns = MOST_TURNS;
-    while turns > 0 && !making.over {
-        turns -= 1;
+    for _ in 0..MOST_TURNS {
         if held == TEXT {
-            faults::say_long(std::num::wrapping_add_u64(making.lines, 1));
-            return;
+            faults::say_long(told, making.lines.wrapping_add(1));
+            return Err(Ended::Said);
         }
-        let more = read_more(&mut text, held);
-        if more.failed {
-            faults::say_unread();
-            return;
+        let now = read_more(input, told, &mut text, held)?;
+        if now == held {
+            return take_end(out, told, making, &text[..held]);
         }
-        if more.held == held {
-            take_end(making, &text[..held]);
-            return;
-        }
-        held = more.held;
-        let rest = take_lines(making, &text[..held]);
+        let rest = take_lines(out, told, making, &text[..now])?;
         making = rest.making;
-        let from = rest.at;
-        move_to_front(&mut text, from, held);
-        held -= from;
+        text.copy_within(rest.at..now, 0);
+        held = now - rest.at;
+    }
+    Ok(())
+}
+
+fn main(rt: HostRuntime) -> ExitCode {
+    match make_file(&mut rt.reader(), &mut rt.stdout(), &mut rt.stderr()) {
+        Ok(()) | Err(Ended::Said) => ExitCode::SUCCESS,
+        Err(Ended::Stopped) => ExitCode::from(streams::STOPPED),
     }
 }
