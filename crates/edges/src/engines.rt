@@ -4,15 +4,15 @@ use crate::comparing::{is_same, same_bytes};
 use crate::printed;
 use crate::reporting::{end_row, print_answer, print_flag, print_number};
 use input::{Event, Setup};
-use libc::STDOUT_FILENO;
 use numbers::Limit;
 use pages::{Page, Session};
 use plain::{Order, Plain};
 use protocol::State;
+use std::io;
 
 // A session on both engines, how many events there were, and after how many of them the engines agreed; and the same
 // of the pages.
-#[derive(Drop)]
+#[derive(Clone, Copy)]
 pub struct Both {
     pub state: State,
     pub plain: Plain,
@@ -24,11 +24,7 @@ pub struct Both {
 
 // One more, if the engines agreed.
 fn count_if(alike: bool, count: u64) -> u64 {
-    if alike {
-        std::num::wrapping_add_u64(count, 1)
-    } else {
-        count
-    }
+    if alike { count.wrapping_add(1) } else { count }
 }
 
 // The session that a set-up begins with.
@@ -61,7 +57,7 @@ fn is_page_alike(session: Session, read: &[u8]) -> bool {
 // The session with one page more.
 pub fn with_page(both: Both, session: Session, read: &[u8]) -> Both {
     let mut next = both;
-    next.pages = std::num::wrapping_add_u64(next.pages, 1);
+    next.pages = next.pages.wrapping_add(1);
     next.alike_pages = count_if(is_page_alike(session, read), next.alike_pages);
     next
 }
@@ -76,7 +72,7 @@ fn step(both: Both, e: Event) -> Both {
     let mut next = both;
     next.state = state;
     next.plain = session;
-    next.events = std::num::wrapping_add_u64(next.events, 1);
+    next.events = next.events.wrapping_add(1);
     next.alike = count_if(alike, next.alike);
     next
 }
@@ -92,30 +88,25 @@ pub fn step_all(begun: Both, part: &[u8]) -> Both {
 }
 
 // Prints after how many events the engines agreed, and in how many pages.
-pub fn tell(both: Both) {
-    io::write_all(STDOUT_FILENO, b"alike");
-    print_number(both.alike);
-    io::write_all(STDOUT_FILENO, b" of");
-    print_number(both.events);
-    io::write_all(STDOUT_FILENO, b" events,");
-    print_number(both.alike_pages);
-    io::write_all(STDOUT_FILENO, b" of");
-    print_number(both.pages);
-    io::write_all(STDOUT_FILENO, b" pages\n");
+pub fn tell(rt: &impl Print, both: Both) -> io::Result<()> {
+    println!(rt;
+        "alike {} of {} events, {} of {} pages",
+        both.alike, both.events, both.alike_pages, both.pages
+    )
 }
 
 // Prints an order: how many are pending, and the first four places.
-fn print_order(order: Order) {
-    print_number(order.pending as u64);
-    print_number(order.tasks[0] as u64);
-    print_number(order.tasks[1] as u64);
-    print_number(order.tasks[2] as u64);
-    print_number(order.tasks[3] as u64);
+fn print_order(rt: &impl Print, order: Order) -> io::Result<()> {
+    print_number(rt, order.pending as u64)?;
+    print_answer(rt, order.tasks[0])?;
+    print_answer(rt, order.tasks[1])?;
+    print_answer(rt, order.tasks[2])?;
+    print_answer(rt, order.tasks[3])
 }
 
 // Prints a session's order, the answer to an event of this kind in it, and whether its state is as before; then the
 // order after it.
-fn tell_order(session: Plain, kind: u8) {
+fn tell_order(rt: &impl Print, session: Plain, kind: u8) -> io::Result<()> {
     let e = Event {
         kind,
         task: 0,
@@ -124,12 +115,12 @@ fn tell_order(session: Plain, kind: u8) {
     };
     let reply = plain::step(session, e);
     let after = reply.session;
-    io::write_all(STDOUT_FILENO, b"order");
-    print_order(session.order);
-    print_answer(reply.answer);
-    print_flag(is_same(session.state, after.state));
-    print_order(after.order);
-    end_row();
+    print!(rt; "order")?;
+    print_order(rt, session.order)?;
+    print_answer(rt, reply.answer)?;
+    print_flag(rt, is_same(session.state, after.state))?;
+    print_order(rt, after.order)?;
+    end_row(rt)
 }
 
 // A session with these tasks in its first four places, and so many pending.
@@ -146,15 +137,15 @@ fn with_order(session: Plain, places: [u8; 4], pending: usize) -> Plain {
 
 // The busy session in its order: task 2, task 0, task 1. With two jobs exchanged; with one counted too few; with a
 // task behind the last; and with nobody and the largest count. Time passes to tick 9; and an event of no kind.
-pub fn run_all() {
+pub fn run_all(rt: &impl Print) -> io::Result<()> {
     let none = Limit::NOBODY;
     let busy = printed::busy_plain();
-    tell_order(busy, Event::PASSING);
-    tell_order(busy, 0);
+    tell_order(rt, busy, Event::PASSING)?;
+    tell_order(rt, busy, 0)?;
     let exchanged = with_order(busy, [0, 2, 1, none], 3);
-    tell_order(exchanged, Event::PASSING);
-    tell_order(exchanged, 0);
-    tell_order(with_order(busy, [2, 0, 1, none], 2), Event::PASSING);
-    tell_order(with_order(busy, [2, 0, 1, 3], 3), Event::PASSING);
-    tell_order(with_order(busy, [none; 4], usize::MAX), Event::PASSING);
+    tell_order(rt, exchanged, Event::PASSING)?;
+    tell_order(rt, exchanged, 0)?;
+    tell_order(rt, with_order(busy, [2, 0, 1, none], 2), Event::PASSING)?;
+    tell_order(rt, with_order(busy, [2, 0, 1, 3], 3), Event::PASSING)?;
+    tell_order(rt, with_order(busy, [none; 4], usize::MAX), Event::PASSING)
 }

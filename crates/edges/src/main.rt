@@ -1,5 +1,7 @@
 // The edge cases: files of blocks from standard input, each stepped through as the stepping program does, and then
 // edges that no file can show, as calls.
+#![tactic(auto)]
+
 mod answers;
 mod calls;
 mod comparing;
@@ -13,13 +15,15 @@ mod reporting;
 mod scenarios;
 mod writing;
 
-fn main() {
-    files::run_all();
-    calls::run_all();
-    answers::run_all();
-    page_calls::run_all();
-    parts::run_all();
-    writing::run_all();
-    scenarios::run_all();
-    engines::run_all();
+use std::io;
+
+fn main(rt: HostRuntime) -> io::Result<()> {
+    files::run_all(&rt, &mut rt.reader())?;
+    calls::run_all(&rt)?;
+    answers::run_all(&rt)?;
+    page_calls::run_all(&rt)?;
+    parts::run_all(&rt)?;
+    writing::run_all(&rt)?;
+    scenarios::run_all(&rt)?;
+    engines::run_all(&rt)
 }

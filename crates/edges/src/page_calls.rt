@@ -9,8 +9,8 @@ use crate::reporting::{
 };
 use blocks::Block;
 use input::Event;
-use libc::STDOUT_FILENO;
 use pages::{Page, Session};
+use std::io;
 
 // A block of that number with one event: time passes to tick 9.
 pub fn event_block(number: u16) -> [u8; Block::SIZE] {
@@ -31,38 +31,38 @@ pub fn event_block(number: u16) -> [u8; Block::SIZE] {
 
 // Prints the index and the events of the session after a page, whether the output is over, and whether the state is
 // as before.
-fn print_after(before: Session, after: Session) {
+fn print_after(rt: &impl Print, before: Session, after: Session) -> io::Result<()> {
     let state = before.state;
     let next = after.state;
-    print_number(after.index);
-    print_number(after.events);
-    print_flag(after.over);
-    print_flag(is_same(state, next));
+    print_number(rt, after.index)?;
+    print_number(rt, after.events)?;
+    print_flag(rt, after.over)?;
+    print_flag(rt, is_same(state, next))
 }
 
 // Prints a text's length, how many bytes of its buffer were written, and its first line.
-fn print_text(out: [u8; Page::LIMIT], len: usize) {
-    print_number(len as u64);
-    print_number(changed(&out, 0));
-    print_first_line(&out, len);
+fn print_text(rt: &impl Print, out: [u8; Page::LIMIT], len: usize) -> io::Result<()> {
+    print_number(rt, len as u64)?;
+    print_number(rt, changed(&out, 0))?;
+    print_first_line(rt, &out, len)
 }
 
 // Prints a page's number, the session after it, and its text. The buffer has `room` bytes.
-pub fn print_page(session: Session, read: &[u8], room: usize)
+pub fn print_page(rt: &impl Print, session: Session, read: &[u8], room: usize) -> io::Result<()>
     requires { room ≤ page_limit }
 {
     let mut out = [LENT; Page::LIMIT];
     let page = pages::next_page(session, read, &mut out[0..room], false);
     let after = page.session;
     let len = page.len;
-    print_answer(page.number);
-    print_after(session, after);
-    print_text(out, len);
-    end_row();
+    print_answer(rt, page.number)?;
+    print_after(rt, session, after)?;
+    print_text(rt, out, len)?;
+    end_row(rt)
 }
 
 // Prints the pages of a block of one event, numbered 65,535, and of the input's end, for a session on the busy state.
-fn tell_pages(index: u64, events: u64, over: bool, room: usize)
+fn tell_pages(rt: &impl Print, index: u64, events: u64, over: bool, room: usize) -> io::Result<()>
     requires { room ≤ page_limit }
 {
     let state = printed::busy();
@@ -74,17 +74,17 @@ fn tell_pages(index: u64, events: u64, over: bool, room: usize)
         refused: false,
     };
     let block = event_block(65535);
-    io::write_all(STDOUT_FILENO, b"page block");
-    print_page(session, &block, room);
-    io::write_all(STDOUT_FILENO, b"page end");
-    print_page(session, b"", room);
+    print!(rt; "page block")?;
+    print_page(rt, session, &block, room)?;
+    print!(rt; "page end")?;
+    print_page(rt, session, b"", room)
 }
 
 // The largest numbers, an output that is over, and short buffers.
-pub fn run_all() {
-    tell_pages(u64::MAX, u64::MAX, false, Page::LIMIT);
-    tell_pages(65535, u64::MAX, false, Page::LIMIT);
-    tell_pages(65535, 5, true, Page::LIMIT);
-    tell_pages(65535, 5, false, Page::LIMIT - 1);
-    tell_pages(u64::MAX, u64::MAX, true, Page::LIMIT - 1);
+pub fn run_all(rt: &impl Print) -> io::Result<()> {
+    tell_pages(rt, u64::MAX, u64::MAX, false, Page::LIMIT)?;
+    tell_pages(rt, 65535, u64::MAX, false, Page::LIMIT)?;
+    tell_pages(rt, 65535, 5, true, Page::LIMIT)?;
+    tell_pages(rt, 65535, 5, false, Page::LIMIT - 1)?;
+    tell_pages(rt, u64::MAX, u64::MAX, true, Page::LIMIT - 1)
 }

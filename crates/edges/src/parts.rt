@@ -3,8 +3,8 @@ ghost use Rattle.std.specs.Prelude.{◌≤◌};
 
 use crate::printed;
 use crate::reporting::{LENT, changed, end_row, print_number};
-use libc::STDOUT_FILENO;
 use protocol::Reply;
+use std::io;
 
 // Room for three events.
 const ROOM: usize = 3 * Reply::SNAPSHOT;
@@ -13,14 +13,14 @@ const ROOM: usize = 3 * Reply::SNAPSHOT;
 const EVENTS: [u8; 13] = [5, 0, 0, 0, 9, 0, 5, 0, 0, 0, 10, 0, 5];
 
 // How many bytes were written, and how many of them from place `from` on.
-fn print_changes(out: [u8; ROOM], from: usize) {
-    print_number(changed(&out, 0));
-    print_number(changed(&out, from));
+fn print_changes(rt: &impl Print, out: [u8; ROOM], from: usize) -> io::Result<()> {
+    print_number(rt, changed(&out, 0))?;
+    print_number(rt, changed(&out, from))
 }
 
 // Plays the first `len` bytes into a buffer of `room`, and prints how many events were played, the clock after them,
 // and how many bytes were written, in all and from place `from` on.
-fn tell_part(len: usize, room: usize, from: usize)
+fn tell_part(rt: &impl Print, len: usize, room: usize, from: usize) -> io::Result<()>
     requires { (len ≤ 13) × (room ≤ 51) }
 {
     let mut out = [LENT; ROOM];
@@ -28,21 +28,17 @@ fn tell_part(len: usize, room: usize, from: usize)
     let state = printed::busy();
     let played = locking::play(state, &events[0..len], &mut out[0..room]);
     let after = played.state;
-    io::write_all(STDOUT_FILENO, b"part");
-    print_number(len as u64);
-    print_number(room as u64);
-    print_number(played.count as u64);
-    print_number(after.clock as u64);
-    print_changes(out, from);
-    end_row();
+    print!(rt; "part {len} {room} {} {}", played.count, after.clock)?;
+    print_changes(rt, out, from)?;
+    end_row(rt)
 }
 
 // Whole parts, cut ones, and short buffers.
-pub fn run_all() {
-    tell_part(13, ROOM, 2 * Reply::SNAPSHOT);
-    tell_part(12, 2 * Reply::SNAPSHOT, 2 * Reply::SNAPSHOT);
-    tell_part(12, 2 * Reply::SNAPSHOT - 1, Reply::SNAPSHOT);
-    tell_part(12, Reply::SNAPSHOT - 1, 0);
-    tell_part(5, ROOM, 0);
-    tell_part(0, ROOM, 0);
+pub fn run_all(rt: &impl Print) -> io::Result<()> {
+    tell_part(rt, 13, ROOM, 2 * Reply::SNAPSHOT)?;
+    tell_part(rt, 12, 2 * Reply::SNAPSHOT, 2 * Reply::SNAPSHOT)?;
+    tell_part(rt, 12, 2 * Reply::SNAPSHOT - 1, Reply::SNAPSHOT)?;
+    tell_part(rt, 12, Reply::SNAPSHOT - 1, 0)?;
+    tell_part(rt, 5, ROOM, 0)?;
+    tell_part(rt, 0, ROOM, 0)
 }

@@ -1,56 +1,54 @@
 // How results are printed: numbers in a row, and what was written into a lent buffer.
-use libc::STDOUT_FILENO;
 use lines::Line;
+use std::io;
 
 // What the buffers hold before they are lent: a byte that no line has.
 pub const LENT: u8 = 7;
 
 // A number, after a space.
-pub fn print_number(n: u64) {
-    io::write_all(STDOUT_FILENO, b" ");
-    io::print_decimal(STDOUT_FILENO, n);
+pub fn print_number(rt: &impl Print, n: u64) -> io::Result<()> {
+    print!(rt; " {n}")
 }
 
 // A number from the list.
-pub fn print_answer(answer: u8) {
-    print_number(answer as u64);
+pub fn print_answer(rt: &impl Print, answer: u8) -> io::Result<()> {
+    print!(rt; " {answer}")
 }
 
 // 1 for yes, 0 for no.
-pub fn print_flag(is: bool) {
-    print_number(if is { 1 } else { 0 });
+pub fn print_flag(rt: &impl Print, is: bool) -> io::Result<()> {
+    print_answer(rt, u8::from(is))
 }
 
 // Ends the row.
-pub fn end_row() {
-    io::write_all(STDOUT_FILENO, b"\n");
+pub fn end_row(rt: &impl Print) -> io::Result<()> {
+    println!(rt; "")
 }
 
 // How many bytes from place `from` on are not as they were lent.
 pub fn changed(out: &[u8], from: usize) -> u64 {
-    let mut count = 0;
-    for i in from..out.len() {
-        if out[i] != LENT {
-            count += 1;
-        }
-    }
-    count
+    out.iter().skip(from).filter(|byte| **byte != LENT).count() as u64
 }
 
 // A line's number and length, and how many bytes of the buffer were written.
-pub fn print_line(line: Line, out: &[u8]) {
-    print_answer(line.number);
-    print_number(line.len as u64);
-    print_number(changed(out, 0));
+pub fn print_line(rt: &impl Print, line: Line, out: &[u8]) -> io::Result<()> {
+    print_answer(rt, line.number)?;
+    print_number(rt, line.len as u64)?;
+    print_number(rt, changed(out, 0))
 }
 
-// The first line of a text of `len` bytes, without its line feed, in quotes.
-pub fn print_first_line(text: &[u8], len: usize) {
-    let mut at = 0;
-    while at < text.len() && at < len && text[at] != b'\n' {
-        at += 1;
+// The first line of a text, without its line feed.
+fn first_line(text: &[u8]) -> &[u8] {
+    match text.iter().position(|byte| *byte == b'\n') {
+        Some(end) => &text[..end],
+        None => text,
     }
-    io::write_all(STDOUT_FILENO, b" \"");
-    io::write_all(STDOUT_FILENO, &text[0..at]);
-    io::write_all(STDOUT_FILENO, b"\"");
+}
+
+// The first line of a text of `len` bytes, in quotes.
+pub fn print_first_line(rt: &impl Print, text: &[u8], len: usize) -> io::Result<()> {
+    let told = &text[..len.min(text.len())];
+    rt.write_all(b" \"")?;
+    rt.write_all(first_line(told))?;
+    rt.write_all(b"\"")
 }

@@ -6,7 +6,7 @@ use crate::printed;
 use crate::reporting::{LENT, changed, end_row, print_answer, print_flag, print_number};
 use blocks::Block;
 use input::{Event, Setup};
-use libc::STDOUT_FILENO;
+use std::io;
 use writer::Events;
 
 // A byte more than a block has.
@@ -54,48 +54,48 @@ pub fn is_written_again(block: &[u8], index: u64) -> bool {
 }
 
 // Four bytes from a place on.
-fn print_four(out: [u8; ROOM], from: usize)
+fn print_four(rt: &impl Print, out: [u8; ROOM], from: usize) -> io::Result<()>
     requires { from ≤ 508 }
 {
-    print_answer(out[from]);
-    print_answer(out[from + 1]);
-    print_answer(out[from + 2]);
-    print_answer(out[from + 3]);
+    print_answer(rt, out[from])?;
+    print_answer(rt, out[from + 1])?;
+    print_answer(rt, out[from + 2])?;
+    print_answer(rt, out[from + 3])
 }
 
 // Prints the answer and how many bytes were written; of a written block also its head, its check, and whether it is
 // written again once it is read.
-fn print_written(answer: u8, out: [u8; ROOM], index: u64) {
-    print_answer(answer);
-    print_number(changed(&out, 0));
+fn print_written(rt: &impl Print, answer: u8, out: [u8; ROOM], index: u64) -> io::Result<()> {
+    print_answer(rt, answer)?;
+    print_number(rt, changed(&out, 0))?;
     if answer == 0 {
-        print_four(out, 0);
-        print_four(out, Block::CHECK_AT);
-        print_flag(is_written_again(&out[0..Block::SIZE], index));
+        print_four(rt, out, 0)?;
+        print_four(rt, out, Block::CHECK_AT)?;
+        print_flag(rt, is_written_again(&out[0..Block::SIZE], index))?;
     }
-    end_row();
+    end_row(rt)
 }
 
 // Writes a set-up into `room` bytes, and prints the result.
-fn tell_setup(setup: Setup, room: usize)
+fn tell_setup(rt: &impl Print, setup: Setup, room: usize) -> io::Result<()>
     requires { room ≤ 513 }
 {
     let mut out = [LENT; ROOM];
     let answer = writer::write_setup(setup, &mut out[0..room]);
-    io::write_all(STDOUT_FILENO, b"write set-up");
-    print_written(answer, out, 0);
+    print!(rt; "write set-up")?;
+    print_written(rt, answer, out, 0)
 }
 
 // Writes the first `count` of events that are all `e` but for the mixed one in front, and prints the result.
-fn tell_events(e: Event, count: usize, index: u64, room: usize)
+fn tell_events(rt: &impl Print, e: Event, count: usize, index: u64, room: usize) -> io::Result<()>
     requires { room ≤ 513 }
 {
     let mut of = [e; Events::MOST];
     of[0] = MIXED;
     let mut out = [LENT; ROOM];
     let answer = writer::write_events(Events { of, count }, index, &mut out[0..room]);
-    io::write_all(STDOUT_FILENO, b"write events");
-    print_written(answer, out, index);
+    print!(rt; "write events")?;
+    print_written(rt, answer, out, index)
 }
 
 // The set-up with the fault that has that number; with 0, without any.
@@ -130,16 +130,16 @@ fn past_counts() -> Setup {
 }
 
 // Prints what comes back of the first of these numbers.
-fn tell_past_counts() {
+fn tell_past_counts(rt: &impl Print) -> io::Result<()> {
     let mut out = [LENT; Block::SIZE];
-    io::write_all(STDOUT_FILENO, b"past counts");
-    print_answer(writer::write_setup(past_counts(), &mut out));
+    print!(rt; "past counts")?;
+    print_answer(rt, writer::write_setup(past_counts(), &mut out))?;
     let back = input::setup_from(blocks::used_part(&out, blocks::judge_block(&out, 0)));
-    print_number(back.periods[3] as u64);
-    print_answer(back.kinds[2]);
-    print_answer(back.outer[1]);
-    print_answer(back.inner[1]);
-    end_row();
+    print_number(rt, back.periods[3] as u64)?;
+    print_answer(rt, back.kinds[2])?;
+    print_answer(rt, back.outer[1])?;
+    print_answer(rt, back.inner[1])?;
+    end_row(rt)
 }
 
 // A set-up with every place in use.
@@ -158,49 +158,50 @@ fn full() -> Setup {
 }
 
 // Set-ups that are written, and ones that are refused.
-fn tell_setups() {
-    tell_setup(faulty(0), Block::SIZE);
-    tell_setup(past_counts(), Block::SIZE);
-    tell_setup(full(), Block::SIZE);
-    tell_setup(faulty(1), Block::SIZE);
-    tell_setup(faulty(2), Block::SIZE);
-    tell_setup(faulty(3), Block::SIZE);
-    tell_setup(faulty(4), Block::SIZE);
-    tell_setup(faulty(5), Block::SIZE);
-    tell_setup(faulty(1), Block::SIZE - 1);
-    tell_setup(faulty(1), Block::SIZE + 1);
-    tell_setup(faulty(1), 0);
-    tell_setup(faulty(0), Block::SIZE - 1);
-    tell_setup(faulty(0), Block::SIZE + 1);
+fn tell_setups(rt: &impl Print) -> io::Result<()> {
+    tell_setup(rt, faulty(0), Block::SIZE)?;
+    tell_setup(rt, past_counts(), Block::SIZE)?;
+    tell_setup(rt, full(), Block::SIZE)?;
+    tell_setup(rt, faulty(1), Block::SIZE)?;
+    tell_setup(rt, faulty(2), Block::SIZE)?;
+    tell_setup(rt, faulty(3), Block::SIZE)?;
+    tell_setup(rt, faulty(4), Block::SIZE)?;
+    tell_setup(rt, faulty(5), Block::SIZE)?;
+    tell_setup(rt, faulty(1), Block::SIZE - 1)?;
+    tell_setup(rt, faulty(1), Block::SIZE + 1)?;
+    tell_setup(rt, faulty(1), 0)?;
+    tell_setup(rt, faulty(0), Block::SIZE - 1)?;
+    tell_setup(rt, faulty(0), Block::SIZE + 1)
 }
 
 // Events that are written, and ones that are refused.
-fn tell_event_blocks() {
-    tell_events(Event::NONE, 2, 1, Block::SIZE);
-    tell_events(LARGEST, 1, 1, Block::SIZE);
-    tell_events(LARGEST, Events::MOST, 65536, Block::SIZE);
-    tell_events(LARGEST, Events::MOST, Block::LAST_INDEX, Block::SIZE);
-    tell_events(LARGEST, 0, 1, Block::SIZE);
-    tell_events(LARGEST, Events::MOST + 1, 1, Block::SIZE);
-    tell_events(LARGEST, usize::MAX, 1, Block::SIZE);
-    tell_events(LARGEST, 1, 0, Block::SIZE);
-    tell_events(LARGEST, 1, Block::LAST_INDEX + 1, Block::SIZE);
-    tell_events(LARGEST, 1, u64::MAX, Block::SIZE);
-    tell_events(LARGEST, 0, 0, Block::SIZE);
+fn tell_event_blocks(rt: &impl Print) -> io::Result<()> {
+    tell_events(rt, Event::NONE, 2, 1, Block::SIZE)?;
+    tell_events(rt, LARGEST, 1, 1, Block::SIZE)?;
+    tell_events(rt, LARGEST, Events::MOST, 65536, Block::SIZE)?;
+    tell_events(rt, LARGEST, Events::MOST, Block::LAST_INDEX, Block::SIZE)?;
+    tell_events(rt, LARGEST, 0, 1, Block::SIZE)?;
+    tell_events(rt, LARGEST, Events::MOST + 1, 1, Block::SIZE)?;
+    tell_events(rt, LARGEST, usize::MAX, 1, Block::SIZE)?;
+    tell_events(rt, LARGEST, 1, 0, Block::SIZE)?;
+    tell_events(rt, LARGEST, 1, Block::LAST_INDEX + 1, Block::SIZE)?;
+    tell_events(rt, LARGEST, 1, u64::MAX, Block::SIZE)?;
+    tell_events(rt, LARGEST, 0, 0, Block::SIZE)?;
     tell_events(
+        rt,
         LARGEST,
         Events::MOST + 1,
         Block::LAST_INDEX + 1,
         Block::SIZE,
-    );
-    tell_events(LARGEST, 0, 0, Block::SIZE - 1);
-    tell_events(LARGEST, 0, 1, Block::SIZE + 1);
-    tell_events(LARGEST, 1, 0, 0);
+    )?;
+    tell_events(rt, LARGEST, 0, 0, Block::SIZE - 1)?;
+    tell_events(rt, LARGEST, 0, 1, Block::SIZE + 1)?;
+    tell_events(rt, LARGEST, 1, 0, 0)
 }
 
 // All set-ups and events.
-pub fn run_all() {
-    tell_setups();
-    tell_past_counts();
-    tell_event_blocks();
+pub fn run_all(rt: &impl Print) -> io::Result<()> {
+    tell_setups(rt)?;
+    tell_past_counts(rt)?;
+    tell_event_blocks(rt)
 }
