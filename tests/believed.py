@@ -75,7 +75,7 @@ PARTS = {
 }
 BELIEVED = ('rules', 'bytes and texts', 'scenarios and their blocks')
 NO_DEFINITION = re.compile(r'(use|pub mod|unfolding|infix[lr]?) ')
-IMPORT = re.compile(r'^use Rattle·(\w+?)(?:·specs)?[.]specs[.](\w+)[.]', re.MULTILINE)
+IMPORT = re.compile(r'^use Rattle[.](\w+)[.]specs[.](\w+)\b', re.MULTILINE)
 
 
 def lines_of(path):

@@ -227,33 +227,50 @@ def try_text(folder, large):
     expect_stopped([TEXT, large])
 
 
-# ---- stand-ins for the toolchain, for a compiler and for apt-get ----
+# ---- stand-ins for the toolchain, for a program, for a compiler and for apt-get ----
 
 CRATES = """\
-low:
+step: mid high thiserror
 mid: low     # a remark: with a colon
 high: mid
 other: low
-step: mid high io libc
+low:
 """
 
+# A library is built in its folder, behind those that it uses, and says nothing where it was built before.
 RT = """\
 #!/bin/sh
-for crate in low mid high; do
-    echo "fn $crate::all: proved"
-    echo "rt: $crate proved (unchanged since it was last proved)"
-done
-if [ -n "${FAULTY-}" ]; then
-    echo 'proofs/main/Proof.antt:1:1: error: not so'
-    echo 'rt: step NOT PROVED (exit 1, 2 s)'
-    exit 1
-fi
-mkdir -p target/bin
-: >target/bin/step
-echo 'rt: step proved (2 s)'
+crate=${PWD##*/}
+[ -d src ] || exit 2
+case "$1 $crate" in
+'lib low') exit ;;
+'lib mid' | 'lib high' | 'run step') ;;
+*) exit 2 ;;
+esac
+{
+    echo "rt: chose --jobs 2 for $crate"
+    echo "fn $crate::error: proved"
+    if [ "$crate" = "${FAULTY-}" ]; then
+        echo 'src/main.rt:1:1: error[unknown-name]: not so'
+        echo '    a hint'
+        echo "fn $crate::main: not proved"
+        echo 'library low: modules loaded=1 checked=0'
+        echo 'rattle build: nothing was built'
+        exit 1
+    fi
+    if [ "$crate" = "${STUCK-}" ]; then
+        echo 'no room'
+        exit 2
+    fi
+    echo 'logic=proved functions=1'
+} >&2
+mkdir -p out
+[ "$1" = run ] || exit 0
+cp "$PROGRAM" out/step
+exec out/step
 """
 
-LOADER = """\
+PROGRAM = """\
 #!/bin/sh
 echo a line
 [ -z "${SAYS-}" ] || echo "$SAYS" >&2
@@ -290,28 +307,50 @@ def on_terminal(command, answer=b'', **how):
 def try_build(folder):
     """The build as it is shown, and what becomes of what a program says."""
     root, tools = folder / 'root', folder / 'tools'
-    (root / 'crates').mkdir(parents=True)
+    for crate in ['low', 'mid', 'high', 'other', 'step']:
+        (root / 'crates' / crate / 'src').mkdir(parents=True)
+    source = root / 'crates/low/src/lib.rt'
+    for file in [source, root / 'crates/step/stdin']:
+        file.write_text('')
     shutil.copytree(ROOT / 'bin', root / 'bin')
     (root / 'crates.txt').write_text(CRATES)
     script(tools / 'bin/rt', RT)
-    script(tools / 'on' / os.uname().machine / 'toolchain/lib/ld-linux-x86-64.so.2', LOADER)
+    script(tools / 'program', PROGRAM)
     step, log, built = root / 'bin/step', root / 'target/step.log', root / 'target/step.built'
-    env = {name: value for name, value in os.environ.items() if name != 'RATTLE_HOME'}
-    env['PATH'] = f"{tools / 'bin'}:{env['PATH']}"
+    env = {**os.environ, 'PATH': f"{tools / 'bin'}:{os.environ['PATH']}", 'PROGRAM': str(tools / 'program')}
     begins = 'step: building the program: the 4 crates that it is made of are proved first, which takes some minutes\n'
     lines = [f'step: {n} of 4 crates proved' for n in range(5)]
+    shown = begins + ''.join(f'{line}\n' for line in lines[1:])
 
-    why = ('proofs/main/Proof.antt:1:1: error: not so\nrt: step NOT PROVED (exit 1, 2 s)\n'
-           f'step: the program was not built; all that the prover said is in {log}\n')
-    faulty = {**env, 'FAULTY': '1'}
+    ends = f'step: the program was not built; all that the prover said is in {log}\n'
+    why = ('== step\nsrc/main.rt:1:1: error[unknown-name]: not so\nfn step::main: not proved\n'
+           f'rattle build: nothing was built\n{ends}')
+    faulty = {**env, 'FAULTY': 'step'}
     expect([step], 2, begins + ''.join(f'{line}\n' for line in lines[1:4]) + why, env=faulty)
     check('a build that failed: it is not taken for built', built.exists(), False)
-    check('a build that failed: its log', 'fn low::all: proved' in log.read_text(), True)
+    check('a build that failed: its log', 'fn mid::error: proved' in log.read_text(), True)
     told = on_terminal([step], env=faulty)
     check('a build that failed, on a terminal', told,
           (2, begins + '\r'.join(lines[:4]) + '\n' + why))
-    expect([step], 0, begins + ''.join(f'{line}\n' for line in lines[1:]), b'a line\n', env=env)
-    check('a build: its log', log.read_text().count(' proved ('), 4)
+    # A library that failed, by its name; and what says nothing of why it did is shown as it ends.
+    expect([step], 2, f'{begins}{lines[1]}\n' + why.replace('== step', '== mid').replace('step::', 'mid::'),
+           env={**env, 'FAULTY': 'mid'})
+    expect([step], 2, f'{begins}{lines[1]}\n{lines[2]}\n== high\nno room\n{ends}', env={**env, 'STUCK': 'high'})
+    expect([step], 0, shown, b'a line\n', env=env)
+    check('a build: its log', log.read_text().count('logic=proved'), 3)
+    expect([step], 0, '', b'a line\n', env=env)
+    # What the toolchain keeps beside the sources is none of them, and the program is there without it.
+    shutil.rmtree(root / 'crates/step/out')
+    (root / 'crates/other/out').mkdir()
+    (root / 'crates/high/out/kept').write_text('')
+    expect([step], 0, '', b'a line\n', env=env)
+    # A source that is changed, and one that is gone.
+    source.write_text('changed')
+    expect([step], 0, shown, b'a line\n', env=env)
+    source.unlink()
+    expect([step], 0, shown, b'a line\n', env=env)
+    (root / 'crates.txt').write_text(CRATES)
+    expect([step], 0, shown, b'a line\n', env=env)
     expect([step], 0, '', b'a line\n', env=env)
     built.unlink()
     told = on_terminal([step], env=env)
@@ -328,10 +367,12 @@ def try_build(folder):
     ]:
         expect([step], status, said, b'a line\n', env={**env, 'SAYS': says, 'ENDS': str(ends)})
 
+    # The toolchain is needed to build the program alone.
+    without = {**env, 'PATH': '/usr/bin:/bin'}
+    expect([step], 0, '', b'a line\n', env=without)
     (root / 'crates.txt').write_text('low:\n')
     expect([step], 2, 'step: crates.txt lists no crate step\n', env=env)
-    expect([step], 2, 'step: rt is not on the path: the Rattle toolchain is needed to build and run the program\n',
-           env={**env, 'PATH': '/usr/bin:/bin'})
+    expect([step], 2, 'step: rt is not on the path: the Rattle toolchain is needed to build the program\n', env=without)
 
 
 def try_bench(folder):
@@ -350,13 +391,10 @@ def try_bench(folder):
         expect([BENCH, *words], 2, f'bench/run: {why}; see --help\n')
 
     tools, called = folder / 'none', folder / 'called'
-    for name in ['cc', 'x86_64-linux-gnu-gcc']:
-        script(tools / name, '#!/bin/sh\nexit 1\n')
+    script(tools / 'cc', '#!/bin/sh\nexit 1\n')
     script(tools / 'apt-get', f'#!/bin/sh\necho "$*" >>"{called}"\necho no network\nexit 1\n')
     env = {**os.environ, 'PATH': f"{tools}:{os.environ['PATH']}"}
     missing = 'gcc libc6-dev'
-    if os.uname().machine != 'x86_64':
-        missing += ' gcc-x86-64-linux-gnu libc6-dev-amd64-cross'
     expect([BENCH], 2, f'bench/run: missing: {missing}; install these packages, or call bench/run --yes\n', env=env)
     asked = f'These packages are missing: {missing}. Install them by apt-get? [y/N] '
     for answer in ['n', '']:
