@@ -10,7 +10,8 @@ use Rattle.blocks.specs.Verdicts.{verdict, used_part, number_of}
 
 -- the bytes of a file as they are read: blocks of 512, the last one shorter if the file ends within it
 unfoldable pub blocks_of : List ℕ → List (List ℕ)
-blocks_of bytes = table (λ i. take block_size (drop (block_size * i) bytes)) ((length bytes + block_size - 1) / block_size)
+blocks_of bytes =
+    table (λ i. take block_size (drop (block_size * i) bytes)) ((length bytes + block_size - 1) / block_size)
 
 -- the refusal of a block at an index, or 0
 abbrev pub refusal_of : List ℕ → ℕ → ℕ

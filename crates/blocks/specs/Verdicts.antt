@@ -43,7 +43,8 @@ module _ (block : List ℕ) where
 
   -- in an event block, each record's fourth byte is reserve, and all after the records is filler
   unfoldable pub is_event_filled : Bool
-  is_event_filled = all_below count (λ i. payload (event_size * i + 3) is 0) && is_blank (event_size * count) payload_size
+  is_event_filled =
+      all_below count (λ i. payload (event_size * i + 3) is 0) && is_blank (event_size * count) payload_size
 
   -- reserve and filler are 0
   abbrev pub is_filled : Bool → Bool

@@ -64,14 +64,20 @@ fn go_on(rt: &impl Print, walk: Walk, read: &[u8], index: u64) -> io::Result<Wal
     })
 }
 
-// Reads until the buffer is full or the input ends, and returns how much was read. Nothing is read where a read fails.
+// Reads until the buffer is full or the input ends, and returns how much was read. A read that fails ends it as the
+// input's end does, and what was read before counts.
 fn read_full(input: &mut impl Read, buffer: &mut [u8]) -> usize
     ensures { result ≤ length buffer.new }
 {
-    match streams::read_full(input, buffer) {
-        Ok(got) => got,
-        Err(_) => 0,
+    let mut len = 0;
+    while len < buffer.len() {
+        let got = input.read(&mut buffer[len..]).unwrap_or(0);
+        if got == 0 {
+            break;
+        }
+        len += got;
     }
+    len
 }
 
 // Takes the block at an index of a file that has `left` bytes left: its last block may be shorter, and past its end

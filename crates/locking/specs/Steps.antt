@@ -17,7 +17,8 @@ use Rattle.protocol.specs.Records.{with_totals}
 abbrev pub is_apart : List ℕ → List ℕ → ℕ → ℕ → Bool
 is_apart kinds naming r q =
     (slice_index_or kinds r 0 is long && slice_index_or kinds q 0 is short)
-    || (slice_index_or kinds q 0 is slice_index_or kinds r 0 && slice_index_or naming q nothing isn't slice_index_or naming r nothing)
+    || (slice_index_or kinds q 0 is slice_index_or kinds r 0
+    && slice_index_or naming q nothing isn't slice_index_or naming r nothing)
 
 -- what an event's answer is computed from: the set-up and the clock of s, the record of the event's task, whose
 -- totals do not matter, the processors, the groups' names, and whether s is sound

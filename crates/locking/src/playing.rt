@@ -19,7 +19,8 @@ use soundness::Tested;
 
 // The place of the group of resource `r`; place 0 where it has none, as some record has to be read and stored back.
 pub fn place_in(naming: [u8; Setup::RESOURCES], r: u8) -> usize
-    ensures { (result < most_resources) × (slice_index_or naming r nothing < most_resources → result ≡ slice_index_or naming r nothing) }
+    ensures { (result < most_resources)
+        × (slice_index_or naming r nothing < most_resources → result ≡ slice_index_or naming r nothing) }
 {
     let g = setups::named_at(naming, r) as usize;
     if g < Setup::RESOURCES { g } else { 0 }

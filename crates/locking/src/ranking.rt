@@ -96,8 +96,8 @@ pub fn rank_again<'a>(
     t: u8,
 )
     requires { (count ≤ most_tasks) × (t < count) × (length stands.now ≡ most_tasks) × (length own.now ≡ most_tasks)
-        × Ranked (slice_set stands.now t (standing_no task.standing)) (slice_set own.now t (rank_by task.deadline t)) count
-        ahead.old }
+        × Ranked (slice_set stands.now t (standing_no task.standing)) (slice_set own.now t (rank_by task.deadline t))
+        count ahead.old }
     ensures { Ranked stands.now own.now count ahead.new }
 {
     let i = t as usize;

@@ -43,7 +43,8 @@ module _ (blocks : List (List ℕ)) where
   -- the state at the end; a file without an accepted set-up leaves the empty one
   unfoldable pub file_state : State
   file_state =
-      if refusal_of (first_block blocks) 0 is 0 && setup_refusal (setup_of blocks) is 0 then state_of else fresh no_setup
+      if refusal_of (first_block blocks) 0 is 0 && setup_refusal (setup_of blocks) is 0 then state_of else
+      fresh no_setup
 
   -- all that is printed
   unfoldable pub file_text : List ℕ

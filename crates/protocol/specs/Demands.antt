@@ -57,7 +57,8 @@ PrioritiesApart s = (t u : ℕ) → t < most_tasks → u < most_tasks → is_run
 
 -- the linked jobs are exactly the highest-priority runnable ones, m or all if fewer, each linked once
 pub record LinksHighest (s : State) (m : ℕ) : Type 0 where
-  pub highest : (t : ℕ) → t < most_tasks → Linked s t ↔ ((is_runnable s t ≡ true) × (how_many (is_ahead s t) most_tasks < m))
+  pub highest : (t : ℕ) → t < most_tasks
+      → Linked s t ↔ ((is_runnable s t ≡ true) × (how_many (is_ahead s t) most_tasks < m))
   pub once : (k i : ℕ) → link s.processors k ≢ nobody → link s.processors k ≡ link s.processors i → k ≡ i
   pub many : how_many (λ k. link s.processors k isn't nobody) most_processors
       ≡ min m (how_many (is_runnable s) most_tasks)

@@ -43,4 +43,5 @@ module _ (p : Processors) (j : Jobs) where
 
   -- all of `Placed` but the lengths, which the types give
   unfoldable pub is_placed : Bool
-  is_placed = leb p.count most_processors && all_below most_processors processor_holds && all_below most_tasks task_holds
+  is_placed =
+      leb p.count most_processors && all_below most_processors processor_holds && all_below most_tasks task_holds

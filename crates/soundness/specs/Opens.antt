@@ -21,7 +21,8 @@ is_long kinds requests i = get_or kinds (get_or requests i nothing) 0 is long
 
 -- resources a and b are in one group if they are of one kind
 abbrev pub are_together : List ℕ → List ℕ → ℕ → ℕ → Bool
-are_together kinds groups a b = get_or kinds a 0 is get_or kinds b 0 implies get_or groups a nothing is get_or groups b nothing
+are_together kinds groups a b =
+    get_or kinds a 0 is get_or kinds b 0 implies get_or groups a nothing is get_or groups b nothing
 
 -- the requests of the kind of the one at place i are in its group
 abbrev pub is_together : List ℕ → List ℕ → List ℕ → ℕ → ℕ → Bool
@@ -30,4 +31,5 @@ is_together kinds groups requests depth i =
 
 -- task t waits, and for a resource of group g
 abbrev pub waits_in : List ℕ → List ℕ → List ℕ → ℕ → ℕ → Bool
-waits_in stands asked groups g t = leb spinning (get_or stands t absent) && get_or groups (get_or asked t nothing) nothing is g
+waits_in stands asked groups g t =
+    leb spinning (get_or stands t absent) && get_or groups (get_or asked t nothing) nothing is g

@@ -26,6 +26,7 @@ pub record SetupWriteNumbers (c : Setup) (out : List ℕ) : Type 0 where
 pub record EventsWriteNumbers (x : Events) (index : ℕ) (out : List ℕ) : Type 0 where
   pub written : ((events_written x index out).0 ≡ 0) ↔ NoneApplies (lent_rows out (event_rows x index))
   pub for_size_wrong : ((events_written x index out).0 ≡ room_wrong) ↔ FirstAt (lent_rows out (event_rows x index)) 0
-  pub count_wrong : ((events_written x index out).0 ≡ record_count_wrong) ↔ FirstAt (lent_rows out (event_rows x index)) 1
+  pub count_wrong : ((events_written x index out).0 ≡ record_count_wrong)
+      ↔ FirstAt (lent_rows out (event_rows x index)) 1
   pub index_wrong : ((events_written x index out).0 ≡ number_wrong) ↔ FirstAt (lent_rows out (event_rows x index)) 2
   pub kept : (events_written x index out).0 ≢ 0 → (events_written x index out).1 ≡ out
