@@ -2,3 +2,4 @@ pub mod Limits
 pub mod Refusals
 pub mod Rows
 pub mod Numbered
+pub mod Answers
