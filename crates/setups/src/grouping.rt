@@ -6,19 +6,6 @@ ghost use Rattle.setups.specs.Naming.{merged, joined, are_alike, is_joining, joi
 
 use crate::judging::kind_of;
 use input::Setup;
-use numbers::Limit;
-
-// The entry of resource `r` in a table by resource, such as the name of its group; `Limit::NOTHING` past the table.
-pub fn named_at(names: [u8; Setup::RESOURCES], r: u8) -> u8
-    ensures { result ≡ get_or names r nothing }
-{
-    let i = r as usize;
-    if i < Setup::RESOURCES {
-        names[i]
-    } else {
-        Limit::NOTHING
-    }
-}
 
 // A name after the groups named `a` and `b` are joined.
 fn merge(a: u8, b: u8, name: u8) -> u8
@@ -33,8 +20,8 @@ fn merge(a: u8, b: u8, name: u8) -> u8
 fn join(names: [u8; Setup::RESOURCES], outer: u8, inner: u8) -> [u8; Setup::RESOURCES]
     ensures { result ≡ joined names outer inner }
 {
-    let a = named_at(names, outer);
-    let b = named_at(names, inner);
+    let a = numbers::number_at(&names, outer as usize);
+    let b = numbers::number_at(&names, inner as usize);
     let mut next = names;
     for r in 0..Setup::RESOURCES {
         next[r] = merge(a, b, names[r]);

@@ -1,12 +1,13 @@
 // The refusals of a set-up, 1 to 5.
 ghost use Rattle.std.specs.Prelude.{◌≡◌, ltb};
 ghost use Rattle.search.specs.Words.{◌is◌};
+ghost use Rattle.numbers.specs.Answers.{answer_of};
 ghost use Rattle.input.specs.Kinds.{long};
 ghost use Rattle.input.specs.Words.{period, kind, some_task, some_resource, some_pair};
 ghost use Rattle.setups.specs.Refusals.{in_limits, is_stray_pair, is_stray, is_long_in_short, setup_refusal};
 
 use input::Setup;
-use numbers::{Refusal, row};
+use numbers::Refusal;
 
 // Every count is within its limits.
 fn is_in_limits(setup: Setup) -> bool
@@ -43,12 +44,7 @@ fn has_other_kind(setup: Setup) -> bool
 pub fn kind_of(setup: Setup, r: u8) -> u8
     ensures { result ≡ kind setup r }
 {
-    let i = r as usize;
-    if i < Setup::RESOURCES {
-        setup.kinds[i]
-    } else {
-        0
-    }
+    search::entry(&setup.kinds, r as usize, Setup::SHORT)
 }
 
 // Pair (a, b) names a resource not in the table, or one resource twice.
@@ -83,13 +79,25 @@ fn has_long_in_short(setup: Setup) -> bool
     some
 }
 
-// The first refusal that applies, or 0. The rows go from the last to the first: see `numbers::row`.
-pub fn judge_setup(setup: Setup) -> u8
-    ensures { result ≡ setup_refusal setup }
+// The first refusal of the list that applies.
+#[tactic(auto, unfolding(crate::specs::Refusals::setup_refusal, crate::specs::Refusals::setup_rows))]
+pub fn judge_setup(setup: Setup) -> Result<(), Refusal>
+    ensures { answer_of result ≡ setup_refusal setup }
 {
-    let r5 = row(Refusal::LONG_IN_SHORT, has_long_in_short(setup), 0);
-    let r4 = row(Refusal::PAIR_STRAY, has_stray_pair(setup), r5);
-    let r3 = row(Refusal::KIND_UNKNOWN, has_other_kind(setup), r4);
-    let r2 = row(Refusal::PERIOD_ZERO, has_zero_period(setup), r3);
-    row(Refusal::COUNT_OUTSIDE, !is_in_limits(setup), r2)
+    if !is_in_limits(setup) {
+        return Err(Refusal::CountOutside);
+    }
+    if has_zero_period(setup) {
+        return Err(Refusal::PeriodZero);
+    }
+    if has_other_kind(setup) {
+        return Err(Refusal::KindUnknown);
+    }
+    if has_stray_pair(setup) {
+        return Err(Refusal::PairStray);
+    }
+    if has_long_in_short(setup) {
+        return Err(Refusal::LongInShort);
+    }
+    Ok(())
 }

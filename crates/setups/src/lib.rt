@@ -6,5 +6,5 @@ mod grouping;
 mod judging;
 
 pub use clearing::{clear, is_clear};
-pub use grouping::{named_at, names_of};
+pub use grouping::names_of;
 pub use judging::judge_setup;
