@@ -27,11 +27,11 @@ fn end_events(
     rt: &impl Print,
     state: State,
     played: Played,
-    written: [u8; 2 * Reply::SNAPSHOT],
+    written: [u8; 2 * State::SNAPSHOT],
 ) -> io::Result<()> {
     let after = played.state;
     print_answer(rt, written[0])?;
-    print_answer(rt, written[Reply::SNAPSHOT])?;
+    print_answer(rt, written[State::SNAPSHOT])?;
     print_number(rt, played.count as u64)?;
     print_flag(rt, is_same(state, after))?;
     end_row(rt)
@@ -53,7 +53,7 @@ fn tell_events(rt: &impl Print, which: u64, state: State, busy: State) -> io::Re
     let after = reply.state;
     print_answer(rt, reply.answer)?;
     print_flag(rt, is_same(state, after))?;
-    let mut written = [LENT; 2 * Reply::SNAPSHOT];
+    let mut written = [LENT; 2 * State::SNAPSHOT];
     let played = locking::play(state, &TWO_EVENTS, &mut written);
     end_events(rt, state, played, written)
 }
@@ -72,7 +72,7 @@ fn tell_plain(rt: &impl Print, which: u64, state: State, order: Order) -> io::Re
     begin_row(rt, which, "plain")?;
     print_answer(rt, reply.answer)?;
     print_flag(rt, is_same(state, session.state))?;
-    let mut written = [LENT; 2 * Reply::SNAPSHOT];
+    let mut written = [LENT; 2 * State::SNAPSHOT];
     let played = plain::play(state, &TWO_EVENTS, &mut written);
     end_events(rt, state, played, written)
 }

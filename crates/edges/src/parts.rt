@@ -7,7 +7,7 @@ use protocol::Reply;
 use std::io;
 
 // Room for three events.
-const ROOM: usize = 3 * Reply::SNAPSHOT;
+const ROOM: usize = 3 * State::SNAPSHOT;
 
 // Time passes to ticks 9 and 10; and a byte of a third event.
 const EVENTS: [u8; 13] = [5, 0, 0, 0, 9, 0, 5, 0, 0, 0, 10, 0, 5];
@@ -35,10 +35,10 @@ fn tell_part(rt: &impl Print, len: usize, room: usize, from: usize) -> io::Resul
 
 // Whole parts, cut ones, and short buffers.
 pub fn run_all(rt: &impl Print) -> io::Result<()> {
-    tell_part(rt, 13, ROOM, 2 * Reply::SNAPSHOT)?;
-    tell_part(rt, 12, 2 * Reply::SNAPSHOT, 2 * Reply::SNAPSHOT)?;
-    tell_part(rt, 12, 2 * Reply::SNAPSHOT - 1, Reply::SNAPSHOT)?;
-    tell_part(rt, 12, Reply::SNAPSHOT - 1, 0)?;
+    tell_part(rt, 13, ROOM, 2 * State::SNAPSHOT)?;
+    tell_part(rt, 12, 2 * State::SNAPSHOT, 2 * State::SNAPSHOT)?;
+    tell_part(rt, 12, 2 * State::SNAPSHOT - 1, State::SNAPSHOT)?;
+    tell_part(rt, 12, State::SNAPSHOT - 1, 0)?;
     tell_part(rt, 5, ROOM, 0)?;
     tell_part(rt, 0, ROOM, 0)
 }

@@ -16,7 +16,7 @@ use Rattle.protocol.specs.Refusals.{step_of, event_rows, judge}
 use Rattle.protocol.specs.Locks.{next_at}
 use Rattle.protocol.specs.Events.{charged, replied, step_by, step}
 use Rattle.protocol.specs.declared.State.{State}
-use Rattle.protocol.specs.declared.Reply.{Reply}
+use Rattle.protocol.specs.Replies.{Reply}
 use Rattle.protocol.proofs.Sound.Statements.{Sound}
 use Rattle.protocol.proofs.Sound.Reflect.{Shaped, sound_of_test}
 use Rattle.protocol.proofs.Events.Times.{charged_times}

@@ -8,7 +8,7 @@ use Rattle.protocol.specs.Words.{task, depth}
 use Rattle.protocol.specs.Sound.{sound}
 use Rattle.protocol.specs.Events.{step}
 use Rattle.protocol.specs.declared.State.{State}
-use Rattle.protocol.specs.declared.Reply.{Reply}
+use Rattle.protocol.specs.Replies.{Reply}
 use Rattle.protocol.proofs.Sound.Statements.{Sound}
 use Rattle.protocol.proofs.Sound.Reflect.{Shaped, sound_of_test, test_of_sound}
 use Rattle.protocol.proofs.Events.Step.{step_sound, step_setup}

@@ -3,7 +3,7 @@ use Rattle.std.specs.Prelude.{ℕ, zero, suc, ◌*◌, ◌/◌, min, List, lengt
 use Rattle.input.specs.Layout.{event_in, event_count}
 use Rattle.protocol.specs.Events.{step}
 use Rattle.protocol.specs.declared.State.{State}
-use Rattle.protocol.specs.declared.Reply.{Reply}
+use Rattle.protocol.specs.Replies.{Reply}
 use Rattle.locking.specs.declared.Played.{Played}
 use Rattle.states.specs.Writing.{snapshot_size, snapshot_of, written}
 

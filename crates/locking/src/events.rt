@@ -27,7 +27,7 @@ pub fn step(state: State, e: Event) -> Reply
     ensures { result ≡ step_rule state e }
 {
     let part = input::event_bytes(e);
-    let mut snapshot = [0u8; Reply::SNAPSHOT];
+    let mut snapshot = [0u8; State::SNAPSHOT];
     let played = play(state, &part, &mut snapshot);
     let next = played.state;
     Reply {

@@ -114,7 +114,7 @@ pub fn play(state: State, part: &[u8], out: &mut [u8]) -> Played
 {
     let tested = soundness::test(state);
     let events = input::event_count(part);
-    let room = out.len() / Reply::SNAPSHOT;
+    let room = out.len() / State::SNAPSHOT;
     let count = if events < room { events } else { room };
     let next = play_events(state, tested, part, count, out);
     Played { state: next, count }

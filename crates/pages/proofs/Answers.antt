@@ -10,7 +10,7 @@ use Rattle.input.specs.Layout.{byte, event_in, event_count, events_in}
 use Rattle.input.specs.declared.Event.{Event}
 use Rattle.protocol.specs.Events.{run, reply_at}
 use Rattle.protocol.specs.declared.State.{State}
-use Rattle.protocol.specs.declared.Reply.{Reply}
+use Rattle.protocol.specs.Replies.{Reply}
 use Rattle.states.specs.Writing.{places, snapshot_of}
 use Rattle.protocol.proofs.Events.Step.{run_join}
 use Rattle.locking.specs.Playing.{reply_to, snapshot_at}

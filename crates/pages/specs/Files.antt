@@ -9,7 +9,7 @@ use Rattle.setups.specs.Refusals.{setup_refusal}
 use Rattle.protocol.specs.Words.{task}
 use Rattle.protocol.specs.Events.{plain, begin, fresh, after, reply_at}
 use Rattle.protocol.specs.declared.State.{State}
-use Rattle.protocol.specs.declared.Reply.{Reply}
+use Rattle.protocol.specs.Replies.{Reply}
 use Rattle.blocks.specs.Files.{refusal_of, first_block, later_blocks, setup_of, events_of}
 use Rattle.lines.specs.Texts.{first_text, place_text, task_line_text, block_text, setup_text}
 

@@ -7,7 +7,7 @@ use Rattle.numbers.specs.Limits.{most_tasks}
 use Rattle.input.specs.Layout.{setup_in, event_count}
 use Rattle.protocol.specs.Events.{begin, fresh}
 use Rattle.input.specs.Words.{no_setup}
-use Rattle.protocol.specs.declared.Reply.{Reply}
+use Rattle.protocol.specs.Replies.{Reply}
 use Rattle.states.specs.Writing.{snapshot_size, written}
 use Rattle.locking.specs.Playing.{played_to, snapshot_at}
 use Rattle.blocks.specs.Sizes.{most_events}

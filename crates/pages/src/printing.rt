@@ -94,7 +94,7 @@ fn event_page(x: Session, part: &[u8], out: &mut [u8], plain: bool) -> Page
 {
     let before = x.state;
     let setup = before.setup;
-    let mut written = [0u8; Block::MOST_EVENTS as usize * Reply::SNAPSHOT];
+    let mut written = [0u8; Block::MOST_EVENTS as usize * State::SNAPSHOT];
     let played = play_on(before, part, &mut written, plain);
     let state = played.state;
     let count = played.count;

@@ -37,8 +37,8 @@ pub fn put_events(
     let mut at = 0;
     for i in 0..count {
         let number = events.wrapping_add(i as u64 + 1);
-        let from = Reply::SNAPSHOT * i;
-        let end = from + Reply::SNAPSHOT;
+        let from = State::SNAPSHOT * i;
+        let end = from + State::SNAPSHOT;
         at = put_event(out, at, number, processors, &written[from..end]);
     }
     at

@@ -28,7 +28,7 @@ use Rattle.protocol.specs.Edited.{edited, unplaced}
 use Rattle.protocol.specs.Events.{cold, charged, step_by, step, fresh, begin}
 use Rattle.protocol.specs.declared.Task.{Task}
 use Rattle.protocol.specs.declared.State.{State}
-use Rattle.protocol.specs.declared.Reply.{Reply}
+use Rattle.protocol.specs.Replies.{Reply}
 use Rattle.protocol.proofs.Sound.Statements.{Sound}
 use Rattle.protocol.proofs.Sound.Reflect.{Shaped, sound_of_test}
 use Rattle.protocol.proofs.Sound.Begin.{accepted_grouped}

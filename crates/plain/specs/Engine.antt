@@ -4,7 +4,7 @@ use Rattle.numbers.specs.Refusals.{not_sound}
 use Rattle.input.specs.declared.Setup.{Setup}
 use Rattle.input.specs.declared.Event.{Event}
 use Rattle.protocol.specs.Events.{begin, step}
-use Rattle.protocol.specs.declared.Reply.{Reply}
+use Rattle.protocol.specs.Replies.{Reply}
 use Rattle.plain.specs.Orders.{ordered, is_ordered}
 use Rattle.plain.specs.declared.Plain.{Plain}
 use Rattle.plain.specs.declared.PlainReply.{PlainReply}

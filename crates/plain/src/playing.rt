@@ -14,7 +14,7 @@ pub fn play(state: State, part: &[u8], out: &mut [u8]) -> Played
     ensures { (result, out.new) ≡ played state part.now out.old }
 {
     let events = input::event_count(part);
-    let room = out.len() / Reply::SNAPSHOT;
+    let room = out.len() / State::SNAPSHOT;
     let count = if events < room { events } else { room };
     let mut x = Plain {
         state,

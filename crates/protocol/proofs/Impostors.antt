@@ -2,7 +2,7 @@
 use Rattle.std.proofs.Common.{ap, arith}
 use Rattle.std.specs.Prelude.{ℕ}
 use Rattle.processors.specs.Words.{runs}
-use Rattle.protocol.specs.declared.Reply.{Reply}
+use Rattle.protocol.specs.Replies.{Reply}
 use Rattle.protocol.specs.Cases.{differences}
 use Rattle.protocol.specs.Impostors.{RefusingDiffers, IdlingDiffers, RepeatingDiffers, ClaimingDiffers}
 

@@ -27,7 +27,7 @@ use Rattle.protocol.specs.Refusals.{misplaced, event_rows, judge}
 use Rattle.protocol.specs.Locks.{open_of_kind, opens, enqueues, closes, frees, dequeues, passes}
 use Rattle.protocol.specs.Events.{arrives, leaves, becomes_preemptable, gives_way, arrive_event, finish_event, request_event, complete_event, charged, act, step_by, step, fresh, begin}
 use Rattle.protocol.specs.declared.State.{State}
-use Rattle.protocol.specs.declared.Reply.{Reply}
+use Rattle.protocol.specs.Replies.{Reply}
 
 -- an event, its answer, and for each processor the linked and the running task
 record Line : Type 0 where

@@ -12,7 +12,7 @@ use Rattle.protocol.specs.Locks.{open_of_kind, opens, enqueues, closes, frees, p
 use Rattle.protocol.specs.Refusals.{step_of}
 use Rattle.protocol.specs.Events.{charged, replied}
 use Rattle.protocol.specs.declared.State.{State}
-use Rattle.protocol.specs.declared.Reply.{Reply}
+use Rattle.protocol.specs.Replies.{Reply}
 
 -- t requests r: the request is open at once, or t is enqueued
 unfoldable pub request_edit : Setup → ℕ → ℕ → State → State

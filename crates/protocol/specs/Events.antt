@@ -21,7 +21,7 @@ use Rattle.protocol.specs.Refusals.{step_of, judge}
 use Rattle.protocol.specs.Locks.{open_of_kind, opens, enqueues, closes, frees, next_at, passes, arrive_edit, finish_edit}
 use Rattle.protocol.specs.declared.Task.{Task}
 use Rattle.protocol.specs.declared.State.{State}
-use Rattle.protocol.specs.declared.Reply.{Reply}
+use Rattle.protocol.specs.Replies.{Reply}
 
 -- ---- the scheduler's moves, with the jobs of s
 module _ (c : Setup) (t : ℕ) (s : State) where

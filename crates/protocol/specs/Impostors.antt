@@ -4,7 +4,7 @@ use Rattle.std.specs.Prelude.{ℕ, ◌≢◌}
 use Rattle.input.specs.declared.Event.{Event}
 use Rattle.protocol.specs.Events.{step}
 use Rattle.protocol.specs.declared.State.{State}
-use Rattle.protocol.specs.declared.Reply.{Reply}
+use Rattle.protocol.specs.Replies.{Reply}
 use Rattle.protocol.specs.Cases.{opening, event₁, event₂, reply₁, reply₂}
 
 -- refuses everything, with whichever number

@@ -1,5 +1,6 @@
 pub mod Records
 pub mod Words
+pub mod Replies
 pub mod Ranks
 pub mod Situations
 pub mod Sound

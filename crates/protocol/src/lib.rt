@@ -78,14 +78,7 @@ pub struct State {
     pub processors: Processors,
 }
 
-// The answer to a set-up or an event, and the state after it.
-#[derive(Clone, Copy)]
-pub struct Reply {
-    pub answer: u8,
-    pub state: State,
-}
-
-impl Reply {
+impl State {
     // The bytes of a snapshot, which is what is written of an event: its answer, and for each processor the linked
     // and the running task.
     pub const SNAPSHOT: usize = 1 + 2 * Processors::LIMIT;

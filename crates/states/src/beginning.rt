@@ -1,11 +1,13 @@
 // The state that a set-up begins with.
 ghost use Rattle.std.specs.Prelude.{◌≡◌};
+ghost use Rattle.protocol.specs.Replies.{reply_from};
 ghost use Rattle.protocol.specs.Events.{fresh as fresh_state, begin as begin_rule};
 ghost use Rattle.input.specs.Words.{no_setup};
 
 use crate::records::{no_group, no_task};
 use input::Setup;
-use protocol::{Group, Reply, State, Task};
+use numbers::Refusal;
+use protocol::{Group, State, Task};
 
 // The state of a set-up before any event: nobody has arrived.
 fn fresh(setup: Setup) -> State
@@ -32,17 +34,11 @@ pub fn empty() -> State
     fresh(Setup::none())
 }
 
-// The answer to a set-up, and the state that it begins with; a refused one gives the empty state.
-pub fn begin(setup: Setup) -> Reply
-    ensures { result ≡ begin_rule setup }
+// The state that a set-up begins with, or its refusal.
+#[tactic(auto, unfolding(protocol::specs::Events::begin))]
+pub fn begin(setup: Setup) -> Result<State, Refusal>
+    ensures { reply_from (fresh_state no_setup) result ≡ begin_rule setup }
 {
-    let answer = setups::judge_setup(setup);
-    let accepted = answer == 0;
-    if accepted {
-        let state = fresh(setups::clear(setup));
-        Reply { answer, state }
-    } else {
-        let state = empty();
-        Reply { answer, state }
-    }
+    setups::judge_setup(setup)?;
+    Ok(fresh(setups::clear(setup)))
 }

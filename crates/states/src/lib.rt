@@ -10,7 +10,7 @@ mod snapshots;
 mod standings;
 
 pub use beginning::{begin, empty};
-pub use lookups::{due_at, has_kind, holders_of, kind_at, number_at, period_at, request_at};
+pub use lookups::{due_at, has_kind, holders_of, kind_at, period_at};
 pub use reading::{linked_to, running_on, situation, situation_refusal, snapshot_of, totals_of};
 pub use records::{no_group, no_task, task_at, with_standing};
 pub use snapshots::put_snapshot;

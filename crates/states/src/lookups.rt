@@ -11,36 +11,11 @@ use input::Setup;
 use numbers::Limit;
 use protocol::{Group, Task};
 
-// The entry of task `t` in a table by task, such as the resource that its job asked for; `Limit::NOTHING` past the
-// table.
-pub fn number_at(numbers: [u8; Setup::TASKS], t: u8) -> u8
-    ensures { result ≡ get_or numbers t nothing }
-{
-    let i = t as usize;
-    if i < Setup::TASKS {
-        numbers[i]
-    } else {
-        Limit::NOTHING
-    }
-}
-
-// The request at place `i` of a task's requests; `Limit::NOTHING` past them.
-pub fn request_at(requests: [u8; Task::REQUESTS], i: usize) -> u8
-    ensures { result ≡ get_or requests i nothing }
-{
-    if i < Task::REQUESTS {
-        requests[i]
-    } else {
-        Limit::NOTHING
-    }
-}
-
 // The period of task `t`; 0 past the table.
 pub fn period_at(periods: [u16; Setup::TASKS], t: u8) -> u16
     ensures { result ≡ get_or periods t 0 }
 {
-    let i = t as usize;
-    if i < Setup::TASKS { periods[i] } else { 0 }
+    search::entry(&periods, t as usize, 0)
 }
 
 // The deadline of a job of task `t` that arrives at `now`.
@@ -55,8 +30,7 @@ pub fn due_at(setup: Setup, t: u8, now: u32) -> u64
 pub fn kind_at(kinds: [u8; Setup::RESOURCES], r: u8) -> u8
     ensures { result ≡ get_or kinds r 0 }
 {
-    let i = r as usize;
-    if i < Setup::RESOURCES { kinds[i] } else { 0 }
+    search::entry(&kinds, r as usize, Setup::SHORT)
 }
 
 // How many places to read of `depth` open requests, which may be any number: each place from the limit on reads
@@ -82,7 +56,7 @@ pub fn has_kind(
 {
     let mut some = false;
     for i in 0..read_requests(depth) {
-        some = some | (kind_at(kinds, request_at(requests, i)) == kind);
+        some = some | (kind_at(kinds, numbers::number_at(&requests, i)) == kind);
     }
     some
 }

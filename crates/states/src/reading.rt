@@ -1,5 +1,6 @@
 // What is read from a state: situations and what each refuses, totals, links and placements.
 ghost use Rattle.std.specs.Prelude.{◌≡◌};
+ghost use Rattle.numbers.specs.Answers.{answer_of};
 ghost use Rattle.processors.specs.Words.{link, runs};
 ghost use Rattle.protocol.specs.Words.{task as task_record};
 ghost use Rattle.protocol.specs.Situations.{situation as situation_rule, situation_refusal};
@@ -9,7 +10,7 @@ use crate::records::task_at;
 use crate::standings::{situation_of, stand_of};
 use numbers::Refusal;
 use processors::Processors;
-use protocol::{Reply, Situation, State, Task};
+use protocol::{Situation, State, Task};
 
 // What the job of task `t` is doing.
 pub fn situation(state: State, t: u8) -> Situation
@@ -22,18 +23,17 @@ pub fn situation(state: State, t: u8) -> Situation
     situation_of(stand_of(standing), p, t)
 }
 
-// The refusal of a finish, request or completion in a situation: 18, 26, 19 or 20, or 0. It tells a suspended job from
-// one that could run and is on no processor.
-pub fn situation_refusal(situation: Situation) -> u8
-    ensures { result ≡ situation_refusal situation }
+// The refusal of a finish, request or completion in a situation: 18, 26, 19 or 20. It tells a suspended job from one
+// that could run and is on no processor.
+pub fn situation_refusal(situation: Situation) -> Result<(), Refusal>
+    ensures { answer_of result ≡ situation_refusal situation }
 {
     match situation {
-        Situation::NoJob => Refusal::NOT_PENDING,
-        Situation::Suspended => Refusal::IS_SUSPENDED,
-        Situation::LinkedOnly => Refusal::ON_NO_PROCESSOR,
-        Situation::Ready => Refusal::ON_NO_PROCESSOR,
-        Situation::Spinning => Refusal::IS_SPINNING,
-        Situation::Running => 0,
+        Situation::NoJob => Err(Refusal::NotPending),
+        Situation::Suspended => Err(Refusal::IsSuspended),
+        Situation::LinkedOnly | Situation::Ready => Err(Refusal::OnNoProcessor),
+        Situation::Spinning => Err(Refusal::IsSpinning),
+        Situation::Running => Ok(()),
     }
 }
 
@@ -63,10 +63,10 @@ pub fn running_on(state: State, k: usize) -> u8
 }
 
 // The snapshot of an event: its answer, and for each processor the linked and the running task after it.
-pub fn snapshot_of(answer: u8, p: Processors) -> [u8; Reply::SNAPSHOT]
+pub fn snapshot_of(answer: u8, p: Processors) -> [u8; State::SNAPSHOT]
     ensures { result ≡ snapshot_of answer p }
 {
-    let mut snapshot = [answer; Reply::SNAPSHOT];
+    let mut snapshot = [answer; State::SNAPSHOT];
     for k in 0..Processors::LIMIT {
         snapshot[2 * k + 1] = processors::link_at(p, k);
         snapshot[2 * k + 2] = processors::runs_at(p, k);

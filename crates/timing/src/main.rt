@@ -47,7 +47,7 @@ fn begin_from(block: &[u8]) -> State {
 
 // The state after the events of a block.
 fn play_block(state: State, block: &[u8], index: u64) -> State {
-    let mut out = [0u8; Block::MOST_EVENTS as usize * Reply::SNAPSHOT];
+    let mut out = [0u8; Block::MOST_EVENTS as usize * State::SNAPSHOT];
     let part = blocks::used_part(block, blocks::judge_block(block, index));
     locking::play(state, part, &mut out).state
 }

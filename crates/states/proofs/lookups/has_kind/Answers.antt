@@ -13,7 +13,7 @@ loop-i-init c = search rules
 
 pub loop-i-preserved : goal.loop-i-preserved
 unfolding any_below
-loop-i-preserved c = (search rules, rw (add-one, c.loop-i.invariant.1, c.kind_at.ensures, c.request_at.ensures))
+loop-i-preserved c = (search rules, rw (add-one, c.loop-i.invariant.1, c.kind_at.ensures, c.number_at.ensures))
 
 pub returns : goal.returns
 returns c =

@@ -1,4 +1,0 @@
-use Rattle.states.proofs.beginning.empty.Goals as goal
-
-pub returns : goal.returns
-returns c = rw (c.fresh.ensures, c.none.ensures)

@@ -1,4 +1,0 @@
-use Rattle.states.proofs.records.no_group.Goals as goal
-
-pub returns : goal.returns
-returns c = rw c.empty.ensures
