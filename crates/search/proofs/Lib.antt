@@ -1,4 +1,5 @@
 pub mod Bests
+pub mod Chains
 pub mod Determined
 pub mod Firsts
 pub mod Lowest
