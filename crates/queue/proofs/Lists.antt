@@ -1,32 +1,21 @@
 -- Facts of lists. Assumes nothing.
-use Prim.Native.Nat.{ℕ, zero, suc, ◌-◌, ◌≤◌, ◌<◌}
-use mathlib.Core.Path.{◌≡◌, refl, sym, ap, ◌∙◌}
+use Prim.Native.Nat.{ℕ, zero, suc, ◌≤◌, ◌<◌}
+use mathlib.Core.Path.{◌≡◌, refl, ap}
 use mathlib.Core.List.{List, [], ◌∷◌, ◌++◌}
 use mathlib.Core.Logic.{◌≢◌}
 use native.Mathlib.Nat.{not-suc-le-zero, le_of_suc-le-suc}
 use native.Mathlib.Omega.{arith}
-use lib.ListN.{length, get_or, set, take, drop, replicate, length-append, length-take, get_or-eq_default}
-use lib.Seq.{length-take-le, take-suc, set_at, append_snoc, take-append-le}
+use lib.ListN.{length, get_or, set, take, drop, length-append, length-take, get_or-eq_default}
+use lib.Seq.{take-append-le}
 
 -- the first n hold nothing from n on
 pub take_past {ℓ} : {A : Type ℓ} (n : ℕ) (l : List A) (i : ℕ) (d : A) → n ≤ i → get_or (take n l) i d ≡ d
 take_past n l i d h = get_or-eq_default (take n l) d (simp length-take (omega arith))
 
--- one turn of a loop that copies l over places that hold d
-copy_turn {ℓ} : {A : Type ℓ} (l : List A) (k n : ℕ) (d e : A) → k < length l
-    → set (take k l ++ replicate (suc n) d) k (get_or l k e) ≡ take (suc k) l ++ replicate n d
-copy_turn l k n d e h =
-    set_at (take k l) d (replicate n d) (get_or l k e) k (length-take-le k l (omega arith))
-    ∙ rw (take-suc l k e h) (sym (append_snoc (take k l) (get_or l k e) (replicate n d)))
-
--- the same for all but the first of l
-pub move_turn {ℓ} : {A : Type ℓ} (l : List A) (i n : ℕ) (d e : A) → 0 < i → i < length l
-    → set (take (i - 1) (drop 1 l) ++ replicate (suc n) d) (i - 1) (get_or l i e) ≡ take i (drop 1 l) ++ replicate n d
-move_turn [] i n d e g h = absurd (not-suc-le-zero h)
-move_turn (x ∷ l) zero n d e g h = absurd (not-suc-le-zero g)
-move_turn (x ∷ l) (suc k) n d e g h =
-    let z : suc k - 1 ≡ k = omega arith in
-    rw z (copy_turn l k n d e (le_of_suc-le-suc h))
+-- the first place filled with d, and then turned to the end: the places moved up, the last one filled with d
+pub turned {ℓ} : {A : Type ℓ} (l : List A) (d : A) → 0 < length l → drop 1 (set l 0 d) ++ take 1 (set l 0 d) ≡ drop 1 l ++ (d ∷ [])
+turned [] d h = absurd (not-suc-le-zero h)
+turned (x ∷ l) d h = refl
 
 -- one more at the end leaves the other places as they were
 pub snoc_other {ℓ} : {A : Type ℓ} (l : List A) (a : A) (i : ℕ) (d : A) → i ≢ length l → get_or (l ++ (a ∷ [])) i d ≡ get_or l i d

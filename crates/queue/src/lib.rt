@@ -1,13 +1,13 @@
 // A queue of tasks: who waits, in the order they asked. Every function is defined for any content, tidy or not.
 #![tactic(auto)]
 
-ghost use Rattle.std.specs.Prelude.{◌≡◌, get_or};
-ghost use Rattle.numbers.specs.Limits.{nobody};
-ghost use Rattle.queue.specs.Waiting.{waiter, empty, appended, moved_up, without_first, place_of, is_clear, is_tidy};
+ghost use Rattle.std.specs.Prelude.{◌≡◌};
+ghost use Rattle.queue.specs.Waiting.{waiter, empty, appended, without_first, place_of, is_clear, is_tidy};
 
 use numbers::Limit;
 
-// The first `len` places hold the waiting tasks, the others nobody.
+// The first `len` places hold the waiting tasks, the others nobody. A session has fixed memory, and a state may hold
+// any places and any length, so the two stay beside each other.
 #[derive(Clone, Copy)]
 pub struct Queue {
     pub tasks: [u8; Queue::CAPACITY],
@@ -33,8 +33,7 @@ impl Queue {
         ensures { result ≡ waiter self i }
     {
         if i < self.len {
-            let tasks = self.tasks;
-            held(tasks, i)
+            numbers::number_at(&self.tasks, i)
         } else {
             Limit::NOBODY
         }
@@ -64,68 +63,38 @@ impl Queue {
     pub fn without_first(self) -> Queue
         ensures { result ≡ without_first self }
     {
-        let len = self.len;
-        if 0 < len {
-            let tasks = self.tasks;
-            Queue {
-                tasks: moved_up(tasks),
-                len: len - 1,
-            }
-        } else {
-            self
+        if self.len == 0 {
+            return self;
+        }
+        let mut tasks = self.tasks;
+        tasks[0] = Limit::NOBODY;
+        tasks.rotate_left(1);
+        Queue {
+            tasks,
+            len: self.len - 1,
         }
     }
 
-    // The first place at which `task` waits, or the capacity. The loop counts down, so that the first place remains.
+    // The first place at which `task` waits, or the capacity.
     pub fn place_of(self, task: u8) -> usize
         ensures { result ≡ place_of self task }
     {
-        let mut found = Queue::CAPACITY;
-        for n in 0..Queue::CAPACITY {
-            let i = Queue::CAPACITY - 1 - n;
-            found = search::pick(self.waiter(i) == task, i, found);
-        }
-        found
+        (0..Queue::CAPACITY)
+            .find(|i| self.waiter(*i) == task)
+            .unwrap_or(Queue::CAPACITY)
     }
 
     // No more tasks wait than there is room for, and the places past the length are empty.
     pub fn is_tidy(self) -> bool
         ensures { result ≡ is_tidy self }
     {
-        let mut ok = self.len <= Queue::CAPACITY;
-        for i in 0..Queue::CAPACITY {
-            ok = ok & self.is_clear(i);
-        }
-        ok
+        self.len <= Queue::CAPACITY && (0..Queue::CAPACITY).all(|i| self.is_clear(i))
     }
 
     // Place `i` is before the length, or empty.
     fn is_clear(self, i: usize) -> bool
         ensures { result ≡ is_clear self i }
     {
-        let tasks = self.tasks;
-        !(self.len <= i) | (held(tasks, i) == Limit::NOBODY)
+        i < self.len || numbers::number_at(&self.tasks, i) == Limit::NOBODY
     }
-}
-
-// What place `i` holds, or nobody.
-fn held(tasks: [u8; Queue::CAPACITY], i: usize) -> u8
-    ensures { result ≡ get_or tasks i nobody }
-{
-    if i < Queue::CAPACITY {
-        tasks[i]
-    } else {
-        Limit::NOBODY
-    }
-}
-
-// Each place holds what the next one held, the last one nobody.
-fn moved_up(tasks: [u8; Queue::CAPACITY]) -> [u8; Queue::CAPACITY]
-    ensures { result ≡ moved_up tasks }
-{
-    let mut next = [Limit::NOBODY; Queue::CAPACITY];
-    for i in 1..Queue::CAPACITY {
-        next[i - 1] = tasks[i];
-    }
-    next
 }
