@@ -17,6 +17,10 @@ jobs_from ranks modes = record { ranks = ranks; modes = modes }
 unfoldable pub first_modes : ℕ → List ℕ → List ℕ
 first_modes n modes = table (λ t. if ltb t n then get_or modes t off else off) most_tasks
 
+-- the jobs, of which only those of the first n tasks count as runnable
+abbrev pub first_jobs : ℕ → Jobs → Jobs
+first_jobs n j = jobs_from j.ranks (first_modes n j.modes)
+
 -- the rank of t's job; 0 past the last task
 unfoldable pub rank_of : Jobs → ℕ → ℕ
 rank_of j t = if ltb t most_tasks then get_or j.ranks t 0 else 0

@@ -1,7 +1,6 @@
 // What the moves look up: a task's job, a processor's tasks, and a task's processor. A function that reads only one
 // table of `Jobs` has a contract that leaves the other one empty.
-ghost use Rattle.std.specs.Prelude.{◌≡◌, [], get_or};
-ghost use Rattle.numbers.specs.Limits.{nobody};
+ghost use Rattle.std.specs.Prelude.{◌≡◌, []};
 ghost use Rattle.processors.specs.Words.{jobs_from, rank_of, mode_of, is_higher, link, runs, place_of, link_of, run_of, is_unlinked, is_awaited};
 
 use crate::{Jobs, Modes, Processors, Ranks};
@@ -11,16 +10,14 @@ use numbers::Limit;
 fn rank_of(ranks: &Ranks, t: u8) -> u64
     ensures { result ≡ rank_of (jobs_from ranks.now []) t }
 {
-    let i = t as usize;
-    if i < Jobs::LIMIT { ranks[i] } else { 0 }
+    search::entry(ranks, usize::from(t), 0)
 }
 
 // The mode of the job of `t`; `Jobs::OFF` past the last task.
 pub fn mode_of(modes: &Modes, t: u8) -> u8
     ensures { result ≡ mode_of (jobs_from [] modes.now) t }
 {
-    let i = t as usize;
-    if i < Jobs::LIMIT { modes[i] } else { Jobs::OFF }
+    search::entry(modes, usize::from(t), Jobs::OFF)
 }
 
 // `a` has a higher priority than `b`.
@@ -30,60 +27,42 @@ pub fn is_higher(ranks: &Ranks, a: u8, b: u8) -> bool
     rank_of(ranks, a) < rank_of(ranks, b)
 }
 
-// The task of processor `k` in a list of the processors' tasks, or nobody.
-pub fn task_at(tasks: [u8; Processors::LIMIT], k: usize) -> u8
-    ensures { result ≡ get_or tasks k nobody }
-{
-    if k < Processors::LIMIT {
-        tasks[k]
-    } else {
-        Limit::NOBODY
-    }
-}
-
 // The task that processor `k` is linked to, or nobody.
 pub fn link_at(p: Processors, k: usize) -> u8
     ensures { result ≡ link p k }
 {
-    let tasks = p.linked;
-    task_at(tasks, k)
+    numbers::number_at(&p.linked, k)
 }
 
 // The task that processor `k` runs, or nobody.
 pub fn runs_at(p: Processors, k: usize) -> u8
     ensures { result ≡ runs p k }
 {
-    let tasks = p.running;
-    task_at(tasks, k)
+    numbers::number_at(&p.running, k)
 }
 
-// The first processor with task `t` in a list of the processors' tasks, or `Processors::LIMIT`. The loop counts down,
-// so that the first one remains.
-fn place_of(tasks: [u8; Processors::LIMIT], t: u8) -> usize
-    ensures { result ≡ place_of tasks t }
+// The first processor with task `t` in a list of the processors' tasks, or `Processors::LIMIT`.
+fn place_of(tasks: &[u8; Processors::LIMIT], t: u8) -> usize
+    ensures { result ≡ place_of tasks.now t }
 {
-    let mut found = Processors::LIMIT;
-    for n in 0..Processors::LIMIT {
-        let k = Processors::LIMIT - 1 - n;
-        found = search::pick(task_at(tasks, k) == t, k, found);
-    }
-    found
+    tasks
+        .iter()
+        .position(|task| *task == t)
+        .unwrap_or(Processors::LIMIT)
 }
 
 // The processor that is linked to `t`, or `Processors::LIMIT`.
 pub fn link_of(p: Processors, t: u8) -> usize
     ensures { result ≡ link_of p t }
 {
-    let linked = p.linked;
-    place_of(linked, t)
+    place_of(&p.linked, t)
 }
 
 // The processor that runs `t`, or `Processors::LIMIT`.
 pub fn run_of(p: Processors, t: u8) -> usize
     ensures { result ≡ run_of p t }
 {
-    let running = p.running;
-    place_of(running, t)
+    place_of(&p.running, t)
 }
 
 // `t` is runnable and no processor is linked to it.
@@ -91,11 +70,7 @@ pub fn is_unlinked(p: Processors, modes: &Modes, t: u8) -> bool
     ensures { result ≡ is_unlinked p (jobs_from [] modes.now) t }
 {
     let runnable = Jobs::PREEMPTABLE <= mode_of(modes, t);
-    if runnable {
-        Processors::LIMIT <= link_of(p, t)
-    } else {
-        false
-    }
+    runnable && Processors::LIMIT <= link_of(p, t)
 }
 
 // Processor `k` is linked to a job that it does not run.

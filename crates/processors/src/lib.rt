@@ -5,9 +5,7 @@ mod changing;
 mod finding;
 
 pub use changing::{link_on, none_linked, place_on};
-pub use finding::{
-    is_awaited, is_higher, is_unlinked, link_at, link_of, mode_of, run_of, runs_at, task_at,
-};
+pub use finding::{is_awaited, is_higher, is_unlinked, link_at, link_of, mode_of, run_of, runs_at};
 use numbers::Limit;
 
 // The task that each processor is linked to, and the task that it runs; both nobody from `count` on.
@@ -39,7 +37,8 @@ impl Jobs {
     pub const LIMIT: usize = Limit::TASKS;
     // Past the last task: what a search that finds no task returns.
     pub const END: u8 = Jobs::LIMIT as u8;
-    // The modes: not runnable (no job, or a suspended one), preemptable, non-preemptable.
+    // The modes: not runnable (no job, or a suspended one), preemptable, non-preemptable. Numbers and no enum, as a table
+    // of modes may hold any number, and each function answers for it.
     pub const OFF: u8 = 0;
 
     pub const PREEMPTABLE: u8 = 1;

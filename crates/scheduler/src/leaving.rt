@@ -1,14 +1,13 @@
 // Become preemptable; finish or suspend; give way at the end of a long request.
-ghost use Rattle.std.specs.Prelude.{◌≡◌, min, []};
+ghost use Rattle.std.specs.Prelude.{◌≡◌};
 ghost use Rattle.search.specs.Best.{better};
 ghost use Rattle.numbers.specs.Limits.{most_tasks};
-ghost use Rattle.processors.specs.Words.{jobs_from, first_modes, is_unlinked, is_higher};
+ghost use Rattle.processors.specs.Words.{first_jobs, is_unlinked, is_higher};
 ghost use Rattle.scheduler.specs.Leaving.{becoming_preemptable, next_task, filling, refilling, leaving_from, leaving, giving_way};
 
 use numbers::Limit;
 use processors::{
-    Jobs, Modes, Processors, Ranks, is_awaited, is_higher, is_unlinked, link_at, link_on, place_on,
-    run_of,
+    Jobs, Processors, is_awaited, is_higher, is_unlinked, link_at, link_on, place_on, run_of,
 };
 
 // The job of `t` became preemptable: if the processor that it runs on is linked to another job, that one runs
@@ -17,49 +16,34 @@ pub fn become_preemptable(p: Processors, t: u8) -> Processors
     ensures { result ≡ becoming_preemptable p t }
 {
     let k = run_of(p, t);
-    if k < Processors::LIMIT {
-        if is_awaited(p, k) {
-            place_on(p, k, link_at(p, k))
-        } else {
-            p
-        }
+    if k < Processors::LIMIT && is_awaited(p, k) {
+        place_on(p, k, link_at(p, k))
     } else {
         p
     }
 }
 
 // Of task `t` and the best so far, the higher one; only unlinked runnable jobs count. `Jobs::END` is none so far.
-fn higher_task(p: Processors, ranks: &Ranks, modes: &Modes, t: u8, best: u8) -> u8
-    ensures { result ≡ better
-        (is_unlinked p (jobs_from [] modes.now)) (is_higher (jobs_from ranks.now []))
-        most_tasks t best }
+fn higher_task(p: Processors, jobs: &Jobs, t: u8, best: u8) -> u8
+    ensures { result ≡ better (is_unlinked p jobs.now) (is_higher jobs.now) most_tasks t best }
 {
-    if is_unlinked(p, modes, t) {
-        if best == Jobs::END {
-            t
-        } else {
-            if is_higher(ranks, t, best) { t } else { best }
-        }
+    if !is_unlinked(p, &jobs.modes, t) {
+        best
+    } else if best == Jobs::END || is_higher(&jobs.ranks, t, best) {
+        t
     } else {
         best
     }
 }
 
-// The lesser of `n` and `Jobs::END`.
-fn end_of(n: usize) -> u8
-    ensures { result ≡ min n most_tasks }
-{
-    if n < Jobs::LIMIT { n as u8 } else { Jobs::END }
-}
-
 // The highest-priority unlinked runnable job of the first `tasks` tasks, or `Jobs::END`.
-fn next_task(p: Processors, ranks: &Ranks, modes: &Modes, tasks: usize) -> u8
-    ensures { result ≡ next_task p (jobs_from ranks.now (first_modes tasks modes.now)) }
+fn next_task(p: Processors, jobs: &Jobs, tasks: usize) -> u8
+    ensures { result ≡ next_task p (first_jobs tasks jobs.now) }
 {
-    let n = end_of(tasks);
+    let end = tasks.min(Jobs::LIMIT) as u8;
     let mut best = Jobs::END;
-    for t in 0..n {
-        best = higher_task(p, ranks, modes, t, best);
+    for t in 0..end {
+        best = higher_task(p, jobs, t, best);
     }
     best
 }
@@ -78,10 +62,10 @@ fn fill(p: Processors, k: usize, u: u8, q: usize) -> Processors
 }
 
 // Processor `k` has neither link nor job: the highest-priority unlinked runnable job, if any, is linked.
-fn refill(p: Processors, ranks: &Ranks, modes: &Modes, tasks: usize, k: usize) -> Processors
-    ensures { result ≡ refilling p (jobs_from ranks.now (first_modes tasks modes.now)) k }
+fn refill(p: Processors, jobs: &Jobs, tasks: usize, k: usize) -> Processors
+    ensures { result ≡ refilling p (first_jobs tasks jobs.now) k }
 {
-    let u = next_task(p, ranks, modes, tasks);
+    let u = next_task(p, jobs, tasks);
     if u < Jobs::END {
         fill(p, k, u, run_of(p, u))
     } else {
@@ -90,41 +74,37 @@ fn refill(p: Processors, ranks: &Ranks, modes: &Modes, tasks: usize, k: usize) -
 }
 
 // The job on processor `k` leaves it: if `k` is linked to another job, that one runs; else `k` is refilled.
-fn leave_from(p: Processors, ranks: &Ranks, modes: &Modes, tasks: usize, k: usize) -> Processors
-    ensures { result ≡ leaving_from p (jobs_from ranks.now (first_modes tasks modes.now)) k }
+fn leave_from(p: Processors, jobs: &Jobs, tasks: usize, k: usize) -> Processors
+    ensures { result ≡ leaving_from p (first_jobs tasks jobs.now) k }
 {
     if is_awaited(p, k) {
         place_on(p, k, link_at(p, k))
     } else {
-        refill(place_on(p, k, Limit::NOBODY), ranks, modes, tasks, k)
+        refill(place_on(p, k, Limit::NOBODY), jobs, tasks, k)
     }
 }
 
-// The job of `t` has finished or is suspended; the tables have it so already. It leaves its processor, which may go
-// to another job of the first `tasks` tasks.
-pub fn leave(p: Processors, ranks: &Ranks, modes: &Modes, tasks: usize, t: u8) -> Processors
-    ensures { result ≡ leaving p (jobs_from ranks.now (first_modes tasks modes.now)) t }
+// The job of `t` has finished or is suspended; the jobs have it so already. It leaves its processor, which may go to
+// another job of the first `tasks` tasks.
+pub fn leave(p: Processors, jobs: &Jobs, tasks: usize, t: u8) -> Processors
+    ensures { result ≡ leaving p (first_jobs tasks jobs.now) t }
 {
     let k = run_of(p, t);
     if k < Processors::LIMIT {
-        leave_from(p, ranks, modes, tasks, k)
+        leave_from(p, jobs, tasks, k)
     } else {
         p
     }
 }
 
-// The priority of `t` is restored; the tables have it so already. A higher job of the first `tasks` tasks may take
-// its processor.
-pub fn give_way(p: Processors, ranks: &Ranks, modes: &Modes, tasks: usize, t: u8) -> Processors
-    ensures { result ≡ giving_way p (jobs_from ranks.now (first_modes tasks modes.now)) t }
+// The priority of `t` is restored; the jobs have it so already. A higher job of the first `tasks` tasks may take its
+// processor.
+pub fn give_way(p: Processors, jobs: &Jobs, tasks: usize, t: u8) -> Processors
+    ensures { result ≡ giving_way p (first_jobs tasks jobs.now) t }
 {
-    let u = next_task(p, ranks, modes, tasks);
-    if u < Jobs::END {
-        if is_higher(ranks, u, t) {
-            leave(p, ranks, modes, tasks, t)
-        } else {
-            p
-        }
+    let u = next_task(p, jobs, tasks);
+    if u < Jobs::END && is_higher(&jobs.ranks, u, t) {
+        leave(p, jobs, tasks, t)
     } else {
         p
     }

@@ -7,12 +7,18 @@ use native.Mathlib.Nat.{pow-suc, not-suc-le-zero, lt_of_lt_of_le}
 use native.Mathlib.Numerals.{add-one}
 use lib.Count.{ones, ones_step, count_trailing_zeros, under}
 use lib.Pow.{pow_mono}
+use mir.Val.{bool_byte}
 use Rattle.std.specs.Prelude.{if◌then◌else◌}
 use Rattle.search.specs.First.{first, bit, mask}
 
 pub bit_small : (b : Bool) → bit b ≤ 1
 bit_small true = omega arith
 bit_small false = omega arith
+
+-- what `u32::from` gives of a truth value
+pub byte_bit : (b : Bool) → bool_byte b ≡ bit b
+byte_bit true = refl
+byte_bit false = refl
 
 mask_lt : (ok : ℕ → Bool) (k n : ℕ) → mask ok k n < 2 ^ n
 unfolding mask

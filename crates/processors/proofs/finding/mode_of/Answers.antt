@@ -1,11 +1,8 @@
-use borrow.Author.Tests.{lt-ltb, le-ltb}
+use Rattle.std.proofs.Common.{◌∙◌, arith}
 use Rattle.processors.specs.Words.{mode_of}
+use Rattle.processors.proofs.Shared.{entry_below}
 use Rattle.processors.proofs.finding.mode_of.Goals as goal
 
-pub returns-then-i-lt-LIMIT : goal.returns-then-i-lt-LIMIT
+pub returns : goal.returns
 unfolding mode_of
-returns-then-i-lt-LIMIT c = rw (lt-ltb _ _ c.if-i-lt-LIMIT.true)
-
-pub returns-else-i-lt-LIMIT : goal.returns-else-i-lt-LIMIT
-unfolding mode_of
-returns-else-i-lt-LIMIT c = rw (le-ltb _ _ c.if-i-lt-LIMIT.false)
+returns c = rw c.from.ensures at c.entry.ensures ∙ entry_below c.args.modes.now c.args.t _ _ (omega arith)

@@ -6,5 +6,5 @@ use Rattle.numbers.specs.Limits.{most_processors}
 use Rattle.scheduler.specs.Arriving.{is_free}
 use Rattle.scheduler.proofs.arriving.free_mask.Given as goal
 
-abbrev pub invariant-loop-n : goal.invariant-loop-n
-invariant-loop-n l = (l.n ≤ most_processors) × (l.free ≡ mask (is_free l.p) (most_processors - l.n) l.n)
+abbrev pub invariant-loop-k : goal.invariant-loop-k
+invariant-loop-k l = (l.k ≤ most_processors) × (l.free ≡ mask (is_free l.p) l.k (most_processors - l.k))

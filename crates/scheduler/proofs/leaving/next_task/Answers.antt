@@ -14,11 +14,9 @@ unfolding best
 loop-t-init c = search rules
 
 pub loop-t-preserved : goal.loop-t-preserved
-loop-t-preserved c =
-    let e = c.end_of-n.ensures in
-    (omega arith, rw (best_turn, ← c.loop-t.invariant.1) (turn _ _ _ _ _ _ _ (omega arith) c.higher_task-best.ensures))
+loop-t-preserved c = (omega arith, rw (best_turn, ← c.loop-t.invariant.1) (turn _ _ _ _ _ _ (omega arith) c.higher_task-best.ensures))
 
 pub returns : goal.returns
 returns c =
-    let e : c.loop-t.t ≡ min c.args.tasks most_tasks = omega (arith, c.end_of-n.ensures) in
-    rw e at c.loop-t.invariant.1 ∙ all _ _ _ _
+    let e : c.loop-t.t ≡ min c.args.tasks most_tasks = omega arith in
+    rw e at c.loop-t.invariant.1 ∙ all _ _ _
