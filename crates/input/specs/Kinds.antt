@@ -1,8 +1,11 @@
 -- RULES.md, 'Set-up' and 'The kinds': the kinds of resource and of event, and the table that says which fields each
 -- kind of event uses.
-use Rattle.std.specs.Prelude.{ℕ, true, false, [], ◌∷◌, get_or}
+use Rattle.std.specs.Prelude.{ℕ, ◌≡◌, ◌≢◌, true, false, [], ◌∷◌, get_or, Result, MatchResult}
 use Rattle.input.specs.declared.Event.{Event}
 use Rattle.input.specs.declared.Fields.{Fields}
+use Rattle.input.specs.declared.events.Kind.{Kind}
+use Rattle.input.specs.declared.events.UnknownKind.{UnknownKind}
+use Rattle.input.specs.declared.events.Kind.TheVariants.{Arrival, Finish, Request, Completion, Passing}
 
 -- ---- resources
 -- a job that waits for it spins
@@ -33,6 +36,18 @@ completion = 4
 -- time passes only
 abbrev pub passing : ℕ
 passing = 5
+
+-- the number of a kind of event as the code has it
+abbrev pub kind_number : Kind → ℕ
+kind_number Arrival = arrival
+kind_number Finish = finish
+kind_number Request = request
+kind_number Completion = completion
+kind_number Passing = passing
+
+-- the result is the kind of event with this number, or none has it
+abbrev pub Decodes : ℕ → Result Kind UnknownKind → Type 0
+Decodes n r = MatchResult r (λ kind. kind_number kind ≡ n) (λ e. (kind : Kind) → kind_number kind ≢ n)
 
 -- an event of no kind: what is read where there is none
 abbrev pub no_event : Event

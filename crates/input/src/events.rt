@@ -1,10 +1,68 @@
-// Which fields of an event each kind uses.
+// The kinds of event, and which fields of an event each uses.
 ghost use Rattle.std.specs.Prelude.{◌≡◌};
-ghost use Rattle.input.specs.Kinds.{fields_of};
+ghost use Rattle.input.specs.Kinds.{kind_number, Decodes, fields_of};
 
 use crate::{Event, Fields};
+use std::error::Error;
+use std::fmt;
 
-// The fields that a kind may use: neither, the task alone, or both.
+// What an event tells. `Event` keeps its number, which may be of no kind.
+#[derive(Clone, Copy, Debug, PartialEq, Eq)]
+pub enum Kind {
+    // A job of the task arrives, or finishes.
+    Arrival,
+    Finish,
+    // Its job requests the resource, or completes its request.
+    Request,
+    Completion,
+    // Time passes only.
+    Passing,
+}
+
+// A number that no kind of event has.
+#[derive(Clone, Copy, Debug, PartialEq, Eq)]
+pub struct UnknownKind(pub u8);
+
+impl From<Kind> for u8 {
+    ghost from_gives = { λ kind number. number ≡ kind_number kind };
+
+    fn from(kind: Kind) -> u8 {
+        match kind {
+            Kind::Arrival => Event::ARRIVAL,
+            Kind::Finish => Event::FINISH,
+            Kind::Request => Event::REQUEST,
+            Kind::Completion => Event::COMPLETION,
+            Kind::Passing => Event::PASSING,
+        }
+    }
+}
+
+impl TryFrom<u8> for Kind {
+    type Error = UnknownKind;
+
+    ghost try_from_gives = { Decodes };
+
+    fn try_from(number: u8) -> Result<Kind, UnknownKind> {
+        match number {
+            Event::ARRIVAL => Ok(Kind::Arrival),
+            Event::FINISH => Ok(Kind::Finish),
+            Event::REQUEST => Ok(Kind::Request),
+            Event::COMPLETION => Ok(Kind::Completion),
+            Event::PASSING => Ok(Kind::Passing),
+            _ => Err(UnknownKind(number)),
+        }
+    }
+}
+
+impl fmt::Display for UnknownKind {
+    fn fmt<W: fmt::Write>(&self, f: &mut fmt::Formatter<W>) -> fmt::Result {
+        write!(f, "no kind of event has the number {}", self.0)
+    }
+}
+
+impl Error for UnknownKind {}
+
+// No field, the task alone, or the task and the resource.
 const NEITHER: Fields = Fields {
     task: false,
     resource: false,
@@ -20,16 +78,23 @@ const BOTH: Fields = Fields {
     resource: true,
 };
 
-// How many rows the table has: one for each kind from 0 on, which is no kind.
-const KINDS: usize = Event::PASSING as usize + 1;
-
-// The fields of each kind.
-const FIELDS: [Fields; KINDS] = [NEITHER, TASK_ALONE, TASK_ALONE, BOTH, BOTH, NEITHER];
+impl Kind {
+    // The fields that an event of this kind uses.
+    #[tactic(auto, unfolding(crate::specs::Kinds::fields_of))]
+    fn fields(self) -> Fields
+        ensures { result ≡ fields_of (kind_number self) }
+    {
+        match self {
+            Kind::Arrival | Kind::Finish => TASK_ALONE,
+            Kind::Request | Kind::Completion => BOTH,
+            Kind::Passing => NEITHER,
+        }
+    }
+}
 
 // The fields that a kind uses; neither for a number that is no kind.
 pub fn fields_of(kind: u8) -> Fields
     ensures { result ≡ fields_of kind }
 {
-    let k = kind as usize;
-    if k < KINDS { FIELDS[k] } else { NEITHER }
+    Kind::try_from(kind).map_or(NEITHER, Kind::fields)
 }

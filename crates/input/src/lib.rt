@@ -8,14 +8,14 @@ mod writing;
 ghost use Rattle.std.specs.Prelude.{◌≡◌};
 ghost use Rattle.input.specs.Words.{no_setup};
 
-pub use events::fields_of;
+pub use events::{Kind, UnknownKind, fields_of};
 use numbers::Limit;
 pub use reading::{byte_at, event_at, event_count, setup_from, word_of};
 pub use writing::{event_bytes, high, low};
 
 // The counts, the starting clock, each task's period, each resource's kind, and the nesting pairs.
 // Places past a count are not read.
-#[derive(Clone, Copy)]
+#[derive(Clone, Copy, PartialEq, Eq)]
 pub struct Setup {
     pub processors: usize,
     pub tasks: usize,
@@ -71,7 +71,7 @@ impl Setup {
 }
 
 // An event: its kind, the task and the resource that it names, and the console's tick.
-#[derive(Clone, Copy)]
+#[derive(Clone, Copy, PartialEq, Eq)]
 pub struct Event {
     pub kind: u8,
     pub task: u8,
@@ -102,7 +102,7 @@ impl Event {
 }
 
 // Whether a kind of event uses the task, and the resource.
-#[derive(Clone, Copy)]
+#[derive(Clone, Copy, PartialEq, Eq)]
 pub struct Fields {
     pub task: bool,
     pub resource: bool,

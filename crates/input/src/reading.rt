@@ -3,57 +3,44 @@ ghost use Rattle.std.specs.Prelude.{◌≡◌, ◌+◌, ◌*◌, ◌<◌};
 ghost use Rattle.input.specs.Layout.{byte, start_in, periods_in, kinds_in, side_in, setup_in, event_in, event_count};
 
 use crate::{Event, Setup};
+use std::array;
 
 // The byte at place `i`; 0 past the end.
 pub fn byte_at(part: &[u8], i: usize) -> u8
     ensures { result ≡ byte part.now i }
 {
-    if i < part.len() { part[i] } else { 0 }
+    search::entry(part, i, 0)
 }
 
 // Two bytes, little-endian.
 pub fn word_of(low: u8, high: u8) -> u16
     ensures { result ≡ low + 256 * high }
 {
-    (low as u16) + 256 * (high as u16)
+    u16::from_le_bytes([low, high])
 }
 
 // The starting clock: four bytes, little-endian.
 fn start_in(part: &[u8]) -> u32
     ensures { result ≡ start_in part.now }
 {
-    let low = word_of(
-        byte_at(part, Setup::START_AT),
-        byte_at(part, Setup::START_AT + 1),
-    );
-    let high = word_of(
-        byte_at(part, Setup::START_AT + 2),
-        byte_at(part, Setup::START_AT + 3),
-    );
-    (low as u32) + 65536 * (high as u32)
+    u32::from_le_bytes(array::from_fn(|i| byte_at(part, Setup::START_AT + i)))
 }
 
 // The period of each task.
 fn periods_in(part: &[u8]) -> [u16; Setup::TASKS]
     ensures { result ≡ periods_in part.now }
 {
-    let mut periods = [0u16; Setup::TASKS];
-    for t in 0..Setup::TASKS {
+    array::from_fn(|t| {
         let at = Setup::PERIODS_AT + 2 * t;
-        periods[t] = word_of(byte_at(part, at), byte_at(part, at + 1));
-    }
-    periods
+        word_of(byte_at(part, at), byte_at(part, at + 1))
+    })
 }
 
 // The kind of each resource.
 fn kinds_in(part: &[u8]) -> [u8; Setup::RESOURCES]
     ensures { result ≡ kinds_in part.now }
 {
-    let mut kinds = [0u8; Setup::RESOURCES];
-    for r in 0..Setup::RESOURCES {
-        kinds[r] = byte_at(part, Setup::KINDS_AT + r);
-    }
-    kinds
+    array::from_fn(|r| byte_at(part, Setup::KINDS_AT + r))
 }
 
 // The outer resources of the pairs, or, with `side` 1, the inner ones.
@@ -61,14 +48,11 @@ fn side_in(part: &[u8], side: usize) -> [u8; Setup::PAIRS]
     requires { side < 2 }
     ensures { result ≡ side_in part.now side }
 {
-    let mut resources = [0u8; Setup::PAIRS];
-    for i in 0..Setup::PAIRS {
-        resources[i] = byte_at(part, Setup::PAIRS_AT + 2 * i + side);
-    }
-    resources
+    array::from_fn(|i| byte_at(part, Setup::PAIRS_AT + 2 * i + side))
 }
 
 // The set-up in the used part of a block.
+#[tactic(auto, unfolding(crate::specs::Layout::setup_in))]
 pub fn setup_from(part: &[u8]) -> Setup
     ensures { result ≡ setup_in part.now }
 {
@@ -86,6 +70,7 @@ pub fn setup_from(part: &[u8]) -> Setup
 }
 
 // How many whole events an event part holds.
+#[tactic(auto, unfolding(crate::specs::Layout::event_count))]
 pub fn event_count(part: &[u8]) -> usize
     ensures { result ≡ event_count part.now }
 {

@@ -8,14 +8,14 @@ use crate::Event;
 pub fn low(n: u16) -> u8
     ensures { result ≡ spec.low n }
 {
-    (n % 256) as u8
+    n.to_le_bytes()[0]
 }
 
 // The high byte, which comes second.
 pub fn high(n: u16) -> u8
     ensures { result ≡ spec.high n }
 {
-    (n / 256) as u8
+    n.to_le_bytes()[1]
 }
 
 // An event as bytes: kind, task, resource, reserve, tick.
