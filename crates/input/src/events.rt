@@ -62,7 +62,7 @@ impl fmt::Display for UnknownKind {
 
 impl Error for UnknownKind {}
 
-// No field, the task alone, or the task and the resource.
+// The fields that a kind may use: neither, the task alone, or both.
 const NEITHER: Fields = Fields {
     task: false,
     resource: false,
@@ -78,23 +78,16 @@ const BOTH: Fields = Fields {
     resource: true,
 };
 
-impl Kind {
-    // The fields that an event of this kind uses.
-    #[tactic(auto, unfolding(crate::specs::Kinds::fields_of))]
-    fn fields(self) -> Fields
-        ensures { result ≡ fields_of (kind_number self) }
-    {
-        match self {
-            Kind::Arrival | Kind::Finish => TASK_ALONE,
-            Kind::Request | Kind::Completion => BOTH,
-            Kind::Passing => NEITHER,
-        }
-    }
-}
+// How many rows the table has: one for each number from 0 on, which is no kind.
+const KINDS: usize = Event::PASSING as usize + 1;
+
+// The fields of each kind: a table, as the specification asks for one.
+const FIELDS: [Fields; KINDS] = [NEITHER, TASK_ALONE, TASK_ALONE, BOTH, BOTH, NEITHER];
 
 // The fields that a kind uses; neither for a number that is no kind.
+#[tactic(auto, unfolding(crate::specs::Kinds::fields_of))]
 pub fn fields_of(kind: u8) -> Fields
     ensures { result ≡ fields_of kind }
 {
-    Kind::try_from(kind).map_or(NEITHER, Kind::fields)
+    search::entry(&FIELDS, usize::from(kind), NEITHER)
 }
