@@ -12,8 +12,7 @@ use Rattle.search.proofs.Tests.{tests}
 use Rattle.numbers.proofs.Refusals.{none_iff}
 use Rattle.input.specs.Layout.{event_size, event_count}
 use Rattle.blocks.specs.Sizes.{last_index, most_events}
-use Rattle.blocks.specs.Verdicts.{count, most_for, used_size, is_first, block_rows, verdict, used_part, number_of, length_of}
-use Rattle.blocks.specs.declared.Verdict.TheVariants.{Used}
+use Rattle.blocks.specs.Verdicts.{Used, count, most_for, used_size, is_first, block_rows, verdict, used_part, number_of, length_of}
 use Rattle.blocks.proofs.Numbers.{judge_none, used_length}
 
 module _ (block : List ℕ) (index n : ℕ) (used : verdict block index ≡ Used n) where

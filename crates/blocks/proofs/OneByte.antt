@@ -12,9 +12,8 @@ use Rattle.search.proofs.Tests.{tests, not_false_iff}
 use Rattle.input.specs.Layout.{byte, word}
 use Rattle.blocks.specs.Sizes.{check_at}
 use Rattle.blocks.specs.Check.{words, modulus, sums, check_of, is_checked}
-use Rattle.blocks.specs.Verdicts.{block_rows, verdict, number_of}
+use Rattle.blocks.specs.Verdicts.{Used, block_rows, verdict, number_of}
 use Rattle.blocks.specs.OneByte.{AreBytes, OneChanged, OneByteIsCaught, OneByteIsRefused}
-use Rattle.blocks.specs.declared.Verdict.TheVariants.{Used}
 use Rattle.blocks.proofs.Sums.{sums_below}
 use Rattle.blocks.proofs.Numbers.{judge_given, judge_none}
 

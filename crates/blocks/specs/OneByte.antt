@@ -4,8 +4,7 @@ use Rattle.numbers.specs.Refusals.{check_wrong}
 use Rattle.input.specs.Layout.{byte}
 use Rattle.blocks.specs.Sizes.{check_at, block_size}
 use Rattle.blocks.specs.Check.{is_checked}
-use Rattle.blocks.specs.Verdicts.{verdict, number_of}
-use Rattle.blocks.specs.declared.Verdict.TheVariants.{Used}
+use Rattle.blocks.specs.Verdicts.{Used, verdict, number_of}
 
 -- every number of the list is a byte
 abbrev pub AreBytes : List ℕ → Type 0

@@ -1,16 +1,26 @@
 -- RULES.md, 'Blocks' and 'Numbers handed back': the refusals 30 to 35 of a block, in the list's order, and its used
 -- part.
-use Rattle.std.specs.Prelude.{ℕ, ◌+◌, ◌-◌, ◌*◌, ◌%◌, Bool, not, ◌&&◌, ◌||◌, List, [], ltb, length, take, drop, if◌then◌else◌}
+use Rattle.std.specs.Prelude.{ℕ, ◌+◌, ◌-◌, ◌*◌, ◌%◌, Bool, not, ◌&&◌, ◌||◌, List, [], ltb, length, take, drop, if◌then◌else◌, Option, Some, None, Result, Ok, Err}
 use Rattle.search.specs.Words.{◌is◌, ◌isn't◌}
 use Rattle.search.specs.Below.{all_below}
 use Rattle.numbers.specs.Refusals.{size_wrong, check_wrong, number_wrong, block_kind_wrong, record_count_wrong, filler_wrong}
 use Rattle.numbers.specs.Rows.{Row, ◌when◌, ◌otherwise◌, first_of}
+use Rattle.numbers.specs.Answers as answers
+use Rattle.numbers.specs.declared.answers.Refusal.{Refusal}
 use Rattle.input.specs.Layout.{byte, word, periods_at, kinds_at, pairs_at, setup_size, event_size}
 use Rattle.input.specs.Words.{within}
 use Rattle.blocks.specs.Sizes.{kind_at, count_at, payload_at, payload_size, block_size, last_index, numbers, setup_block, event_block, most_events}
 use Rattle.blocks.specs.Check.{is_checked}
-use Rattle.blocks.specs.declared.Verdict.{Verdict}
-use Rattle.blocks.specs.declared.Verdict.TheVariants.{Used, Refused}
+
+-- accepted, with the length of the used part; or refused, with its number
+pub data Verdict : Type 0 where
+  Used : ℕ → Verdict
+  Refused : ℕ → Verdict
+
+-- a verdict as the code has it: a refusal by its name
+abbrev pub verdict_from : Result ℕ Refusal → Verdict
+verdict_from (Ok n) = Used n
+verdict_from (Err refusal) = Refused (answers.number_of refusal)
 
 -- the kind that a block must have: the first is the set-up, all others are events
 abbrev pub kind_for : Bool → ℕ
@@ -78,6 +88,11 @@ module _ (block : List ℕ) where
   abbrev pub used_part : Verdict → List ℕ
   used_part (Used n) = take n (drop payload_at block)
   used_part (Refused number) = []
+
+  -- the used part of a length, as the code has it; empty where there is none
+  abbrev pub part_of_length : Option ℕ → List ℕ
+  part_of_length (Some n) = take n (drop payload_at block)
+  part_of_length None = []
 
 -- a verdict's number of the list: 0 where the block is accepted
 abbrev pub number_of : Verdict → ℕ

@@ -27,7 +27,7 @@ pub fn check_of(block: &[u8]) -> Check
     let mut first = 0u32;
     let mut second = 0u32;
     for i in 0..WORDS {
-        first += word_at(block, 2 * i) as u32;
+        first += u32::from(word_at(block, 2 * i));
         second += first;
     }
     Check {
@@ -37,11 +37,13 @@ pub fn check_of(block: &[u8]) -> Check
 }
 
 // Whether a block has the check that it should have.
+#[tactic(auto, unfolding(crate::specs::Check::is_checked))]
 pub fn is_checked(block: &[u8]) -> bool
     ensures { result ≡ is_checked block.now }
 {
-    let c = check_of(block);
-    let first = word_at(block, Block::CHECK_AT) as u32;
-    let second = word_at(block, Block::CHECK_AT + 2) as u32;
-    (first == c.first) & (second == c.second)
+    let held = Check {
+        first: u32::from(word_at(block, Block::CHECK_AT)),
+        second: u32::from(word_at(block, Block::CHECK_AT + 2)),
+    };
+    held == check_of(block)
 }

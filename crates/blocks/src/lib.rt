@@ -3,9 +3,11 @@
 
 mod checking;
 mod judging;
+mod kinds;
 
 pub use checking::check_of;
-pub use judging::{judge_block, number_of, used_part};
+pub use judging::{judge_block, used_part};
+pub use kinds::BlockKind;
 
 // The layout and the limits of a block. Its bytes are always lent, as a slice.
 #[derive(Clone, Copy)]
@@ -36,15 +38,8 @@ impl Block {
 }
 
 // The two sums of a block's check.
-#[derive(Clone, Copy)]
+#[derive(Clone, Copy, PartialEq, Eq)]
 pub struct Check {
     pub first: u32,
     pub second: u32,
-}
-
-// Accepted, with the length of the used part; or refused, with its number.
-#[derive(Clone, Copy)]
-pub enum Verdict {
-    Used(usize),
-    Refused(u8),
 }

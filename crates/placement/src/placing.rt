@@ -8,6 +8,7 @@ use processors::{
 };
 
 // `t` is a task with a runnable job.
+#[tactic(auto, unfolding(processors::specs::Words::mode_of))]
 fn is_runnable_task(jobs: &Jobs, t: u8) -> bool
     ensures { result ≡ runnable_task jobs.now t }
 {
@@ -15,6 +16,7 @@ fn is_runnable_task(jobs: &Jobs, t: u8) -> bool
 }
 
 // The clauses of the link of processor `k`.
+#[tactic(auto, using(std::proofs::lemmas::Bool::Decides::nat_tests))]
 fn link_holds(p: Processors, jobs: &Jobs, k: usize) -> bool
     ensures { result ≡ link_holds p jobs.now k }
 {
@@ -27,6 +29,7 @@ fn link_holds(p: Processors, jobs: &Jobs, k: usize) -> bool
 }
 
 // The clauses of the job on processor `k`.
+#[tactic(auto, using(std::proofs::lemmas::Bool::Decides::nat_tests), unfolding(processors::specs::Words::mode_of))]
 fn run_holds(p: Processors, jobs: &Jobs, k: usize) -> bool
     ensures { result ≡ run_holds p jobs.now k }
 {
@@ -49,6 +52,7 @@ fn processor_holds(p: Processors, jobs: &Jobs, k: usize) -> bool
 }
 
 // Processor `k`, if it is one, is linked to a job higher than `t`.
+#[tactic(auto, using(std::proofs::lemmas::Bool::Decides::nat_tests), unfolding(processors::specs::Words::rank_of))]
 fn links_higher(p: Processors, jobs: &Jobs, t: u8, k: usize) -> bool
     ensures { result ≡ links_higher p jobs.now t k }
 {

@@ -6,6 +6,7 @@ use crate::Processors;
 use numbers::Limit;
 
 // `count` processors, none linked and none running a job.
+#[tactic(auto, unfolding(crate::specs::Words::none_linked))]
 pub fn none_linked(count: usize) -> Processors
     ensures { result ≡ none_linked count }
 {

@@ -52,6 +52,7 @@ fn place_of(tasks: &[u8; Processors::LIMIT], t: u8) -> usize
 }
 
 // The processor that is linked to `t`, or `Processors::LIMIT`.
+#[tactic(auto, unfolding(crate::specs::Words::link_of))]
 pub fn link_of(p: Processors, t: u8) -> usize
     ensures { result ≡ link_of p t }
 {
@@ -59,6 +60,7 @@ pub fn link_of(p: Processors, t: u8) -> usize
 }
 
 // The processor that runs `t`, or `Processors::LIMIT`.
+#[tactic(auto, unfolding(crate::specs::Words::run_of))]
 pub fn run_of(p: Processors, t: u8) -> usize
     ensures { result ≡ run_of p t }
 {

@@ -7,14 +7,14 @@ use processors::Processors;
 use queue::Queue;
 
 // What a waiting job waits for: a lock, by its kind, with the resource asked for.
-#[derive(Clone, Copy)]
+#[derive(Clone, Copy, PartialEq, Eq)]
 pub enum Lock {
     Short(u8),
     Long(u8),
 }
 
 // A task has no job, an active one, or one that waits.
-#[derive(Clone, Copy)]
+#[derive(Clone, Copy, PartialEq, Eq)]
 pub enum Standing {
     Absent,
     Active,
@@ -22,7 +22,7 @@ pub enum Standing {
 }
 
 // What a task's job is doing.
-#[derive(Clone, Copy)]
+#[derive(Clone, Copy, PartialEq, Eq)]
 pub enum Situation {
     NoJob,
     Running,
@@ -34,7 +34,7 @@ pub enum Situation {
 
 // A task's record. `last` is the clock of the last arrival, if the task has `arrived` at all. The open requests are
 // the first `depth`, oldest first.
-#[derive(Clone, Copy)]
+#[derive(Clone, Copy, PartialEq, Eq)]
 pub struct Task {
     pub standing: Standing,
     pub deadline: u64,
@@ -62,14 +62,14 @@ impl Task {
 }
 
 // A lock's record. It is at the place of the group's lowest resource.
-#[derive(Clone, Copy)]
+#[derive(Clone, Copy, PartialEq, Eq)]
 pub struct Group {
     pub holder: u8,
     pub queue: Queue,
 }
 
 // The state of a session, with the exact clock.
-#[derive(Clone, Copy)]
+#[derive(Clone, Copy, PartialEq, Eq)]
 pub struct State {
     pub setup: Setup,
     pub clock: u32,

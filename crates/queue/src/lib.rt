@@ -19,6 +19,7 @@ impl Queue {
     pub const CAPACITY: usize = Limit::TASKS;
 
     // Nobody waits.
+    #[tactic(auto, unfolding(crate::specs::Waiting::empty))]
     pub fn empty() -> Queue
         ensures { result ≡ empty }
     {
@@ -47,6 +48,7 @@ impl Queue {
     }
 
     // Enqueues `task` at the end; a full queue stays as it is.
+    #[tactic(auto, using(std::proofs::lemmas::Bool::Decides::nat_tests), unfolding(crate::specs::Waiting::appended))]
     pub fn append(self, task: u8) -> Queue
         ensures { result ≡ appended self task }
     {
@@ -92,6 +94,7 @@ impl Queue {
     }
 
     // Place `i` is before the length, or empty.
+    #[tactic(auto, using(std::proofs::lemmas::Bool::Decides::nat_tests), unfolding(crate::specs::Waiting::is_clear))]
     fn is_clear(self, i: usize) -> bool
         ensures { result ≡ is_clear self i }
     {

@@ -39,6 +39,7 @@ fn lowest_free(p: Processors) -> usize
 }
 
 // Processor `k`, if it is unlinked; else the lowest-numbered unlinked one, or `Processors::LIMIT`.
+#[tactic(auto, using(std::proofs::lemmas::Bool::Decides::nat_tests), unfolding(crate::specs::Arriving::taken))]
 fn take(p: Processors, k: usize) -> usize
     ensures { result ≡ taken p k }
 {
@@ -47,6 +48,7 @@ fn take(p: Processors, k: usize) -> usize
 }
 
 // The link of processor `a` has a lower priority than that of `b`.
+#[tactic(auto, unfolding(processors::specs::Words::rank_of))]
 fn links_lower(p: Processors, jobs: &Jobs, a: usize, b: usize) -> bool
     ensures { result ≡ links_lower p jobs.now a b }
 {
@@ -54,25 +56,27 @@ fn links_lower(p: Processors, jobs: &Jobs, a: usize, b: usize) -> bool
 }
 
 // Of processor `k` and the best so far, the one with the lower-priority link; `Processors::LIMIT` is none so far.
+#[tactic(auto, using(std::proofs::lemmas::Bool::Decides::nat_tests), unfolding(search::specs::Best::better))]
 fn lower_link(p: Processors, jobs: &Jobs, k: usize, best: usize) -> usize
     ensures { result ≡ better (is_used p) (links_lower p jobs.now) most_processors k best }
 {
-    let lower = best == Processors::LIMIT || links_lower(p, jobs, k, best);
-    if k < p.count && lower { k } else { best }
+    let none = best == Processors::LIMIT;
+    if k < p.count && (none || links_lower(p, jobs, k, best)) {
+        k
+    } else {
+        best
+    }
 }
 
 // The processor with the lowest-priority linked job.
 fn lowest_linked(p: Processors, jobs: &Jobs) -> usize
     ensures { result ≡ lowest_linked p jobs.now }
 {
-    let mut best = Processors::LIMIT;
-    for k in 0..Processors::LIMIT {
-        best = lower_link(p, jobs, k, best);
-    }
-    best
+    (0..Processors::LIMIT).fold(Processors::LIMIT, |best, k| lower_link(p, jobs, k, best))
 }
 
 // The job linked to processor `k` is running and preemptable.
+#[tactic(auto, unfolding(processors::specs::Words::mode_of))]
 fn can_preempt(p: Processors, jobs: &Jobs, k: usize) -> bool
     ensures { result ≡ can_preempt p jobs.now k }
 {

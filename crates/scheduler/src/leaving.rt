@@ -41,15 +41,12 @@ fn next_task(p: Processors, jobs: &Jobs, tasks: usize) -> u8
     ensures { result ≡ next_task p (first_jobs tasks jobs.now) }
 {
     let end = tasks.min(Jobs::LIMIT) as u8;
-    let mut best = Jobs::END;
-    for t in 0..end {
-        best = higher_task(p, jobs, t, best);
-    }
-    best
+    (0..end).fold(Jobs::END, |best, t| higher_task(p, jobs, t, best))
 }
 
 // `u` is linked to `k` and runs there; or, where it runs on `q`, it is linked to `q`, and the job linked to `q` moves
 // to `k`.
+#[tactic(auto, using(std::proofs::lemmas::Bool::Decides::nat_tests), unfolding(crate::specs::Leaving::filling))]
 fn fill(p: Processors, k: usize, u: u8, q: usize) -> Processors
     ensures { result ≡ filling p k u q }
 {
@@ -62,6 +59,7 @@ fn fill(p: Processors, k: usize, u: u8, q: usize) -> Processors
 }
 
 // Processor `k` has neither link nor job: the highest-priority unlinked runnable job, if any, is linked.
+#[tactic(auto, using(std::proofs::lemmas::Bool::Decides::nat_tests), unfolding(crate::specs::Leaving::refilling))]
 fn refill(p: Processors, jobs: &Jobs, tasks: usize, k: usize) -> Processors
     ensures { result ≡ refilling p (first_jobs tasks jobs.now) k }
 {
@@ -74,6 +72,7 @@ fn refill(p: Processors, jobs: &Jobs, tasks: usize, k: usize) -> Processors
 }
 
 // The job on processor `k` leaves it: if `k` is linked to another job, that one runs; else `k` is refilled.
+#[tactic(auto, using(std::proofs::lemmas::Bool::Decides::nat_tests), unfolding(crate::specs::Leaving::leaving_from))]
 fn leave_from(p: Processors, jobs: &Jobs, tasks: usize, k: usize) -> Processors
     ensures { result ≡ leaving_from p (first_jobs tasks jobs.now) k }
 {
@@ -86,6 +85,7 @@ fn leave_from(p: Processors, jobs: &Jobs, tasks: usize, k: usize) -> Processors
 
 // The job of `t` has finished or is suspended; the jobs have it so already. It leaves its processor, which may go to
 // another job of the first `tasks` tasks.
+#[tactic(auto, using(std::proofs::lemmas::Bool::Decides::nat_tests), unfolding(crate::specs::Leaving::leaving))]
 pub fn leave(p: Processors, jobs: &Jobs, tasks: usize, t: u8) -> Processors
     ensures { result ≡ leaving p (first_jobs tasks jobs.now) t }
 {

@@ -3,7 +3,6 @@ use Prim.Native.Nat.{ℕ, zero, suc, ◌+◌, ◌≤◌, ◌<◌}
 use mathlib.Core.Path.{◌≡◌, refl, ap, ◌∙◌}
 use mathlib.Core.Bool.{Bool, true, false}
 use native.Mathlib.Omega.{arith}
-use native.Mathlib.Numerals.{add-one}
 use native.Mathlib.Decide.{ℕ_discrete}
 use Rattle.std.specs.Prelude.{if◌then◌else◌}
 use Rattle.search.specs.First.{first}
@@ -28,8 +27,3 @@ pub first_law : (ok : ℕ → Bool) (k n : ℕ) → First ok k n (first ok k n)
 unfolding first
 first_law ok k zero = record { low = omega arith; high = omega arith; before = λ i p q. absurd (omega arith); here = λ h. absurd (omega arith) }
 first_law ok k (suc n) = one_more ok k n (first ok (suc k) n) (ok k) refl (first_law ok (suc k) n)
-
--- one turn of a loop that takes the tests from the last to the first
-pub first_turn : (ok : ℕ → Bool) (k n : ℕ) → first ok k (n + 1) ≡ (if ok k then k else first ok (k + 1) n)
-unfolding first
-first_turn ok k n = rw (add-one n, add-one k)

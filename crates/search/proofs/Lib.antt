@@ -5,5 +5,6 @@ pub mod Firsts
 pub mod Lowest
 pub mod Masks
 pub mod Pigeons
+pub mod Slices
 pub mod Tables
 pub mod Tests

@@ -5,16 +5,19 @@ use native.Mathlib.Decide.{dec_lt}
 use mathlib.Core.Path.{◌≡◌, refl, sym, ap, ◌∙◌}
 use mathlib.Core.Bool.{Bool, true, false, not, ◌&&◌}
 use mathlib.Core.List.{List}
-use lib.Dec.{ltb}
+use lib.Dec.{ltb, eqb}
+use lib.Pointwise.{pointwise}
 use lib.ListN.{length, get_or}
-use borrow.Author.Tests.{ltb-true, ltb-false, lt-ltb, le-ltb}
+use borrow.Author.Tests.{ltb-true, ltb-false, lt-ltb, le-ltb, eq-eqb}
+use Rattle.std.specs.Cmp.Lexicographic.{same_text, other_text}
+use Rattle.std.proofs.Math.Bool.{and_assoc}
 use Rattle.std.specs.Prelude.{if◌then◌else◌}
 use Rattle.search.specs.Words.{◌is◌}
 use Rattle.search.specs.Below.{any_below}
 use Rattle.numbers.specs.Refusals.{count_outside, period_zero, kind_unknown, pair_stray, long_in_short}
 use Rattle.numbers.proofs.Refusals.{row_same}
 use Rattle.search.proofs.Tables.{table_length, table_at, table_of}
-use Rattle.search.proofs.Tests.{tests}
+use Rattle.search.proofs.Tests.{tests, never}
 use Rattle.numbers.specs.Limits.{most_tasks, most_resources, most_pairs}
 use Rattle.input.specs.Kinds.{long}
 use Rattle.input.specs.Words.{period, kind, outer_of, inner_of, some_task, some_resource, some_pair}
@@ -52,6 +55,15 @@ module _ (n most : ℕ) (l : List ℕ) where
       go : (i : ℕ) → i < most → (t : Bool) → ltb i n ≡ t → get_or l i 0 ≡ (if t then get_or l i 0 else 0)
       go i m true e = refl
       go i m false e = (simp tests at h) i m (ltb-false i n e)
+
+  below_test : length l ≡ most → pointwise eqb (below n most l) l ≡ empty_from n most l
+  below_test s = go (pointwise eqb (below n most l) l) (empty_from n most l) refl refl
+    where
+      go : (a b : Bool) → pointwise eqb (below n most l) l ≡ a → empty_from n most l ≡ b → a ≡ b
+      go true true e f = refl
+      go true false e f = never f (rw (same_text (below n most l) l (sym e)) at below_empty)
+      go false true e f = absurd (other_text (below n most l) l (sym e) (below_same s f))
+      go false false e f = refl
 
 -- ---- tests and choices
 and_same : (t a b : Bool) → (t ≡ true → a ≡ b) → (t && a) ≡ (t && b)
@@ -96,6 +108,19 @@ module _ (c : Setup) where
       let outer = below_same c.pairs most_pairs c.outer s.outer z.0.1 in
       let inner = below_same c.pairs most_pairs c.inner s.inner z.1 in
       rw (periods, kinds, outer, inner)
+
+  -- whether it is clear, by the test of whether it is its own cleared one
+  pub same_as_cleared : Sized c
+      → (eqb (cleared c).processors c.processors && (eqb (cleared c).tasks c.tasks && (eqb (cleared c).resources c.resources && (eqb (cleared c).pairs c.pairs
+      && (eqb (cleared c).start c.start && (pointwise eqb (cleared c).periods c.periods && (pointwise eqb (cleared c).kinds c.kinds
+      && (pointwise eqb (cleared c).outer c.outer && pointwise eqb (cleared c).inner c.inner)))))))) ≡ is_clear c
+  unfolding is_clear cleared
+  same_as_cleared s =
+      let periods = below_test c.tasks most_tasks c.periods s.periods in
+      let kinds = below_test c.resources most_resources c.kinds s.kinds in
+      let outer = below_test c.pairs most_pairs c.outer s.outer in
+      let inner = below_test c.pairs most_pairs c.inner s.inner in
+      rw (periods, kinds, outer, inner, eq-eqb c.processors c.processors refl, eq-eqb c.tasks c.tasks refl, eq-eqb c.resources c.resources refl, eq-eqb c.pairs c.pairs refl, eq-eqb c.start c.start refl) (simp and_assoc)
 
   -- ---- what is read below the counts is as before
   period_kept : (t : ℕ) → t < c.tasks → t < most_tasks → period (cleared c) t ≡ period c t

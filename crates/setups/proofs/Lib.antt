@@ -1,6 +1,7 @@
 pub mod Accepted
+pub mod Chained
 pub mod Cleared
-pub mod Emptied
+pub mod Folded
 pub mod Lists
 pub mod Names
 pub mod Numbers

@@ -23,6 +23,10 @@ module _ (c : Setup) where
   abbrev pub is_joining : ℕ → Bool
   is_joining i = ltb i c.pairs && are_alike (outer_of c i) (inner_of c i)
 
+  -- the names after a pair of these resources, from those before it
+  abbrev pub joined_pair : List ℕ → ℕ × ℕ → List ℕ
+  joined_pair before pair = if are_alike pair.0 pair.1 then joined before pair.0 pair.1 else before
+
   -- the names after pair i, from those before it
   unfoldable pub joined_by : List ℕ → ℕ → List ℕ
   joined_by before i = if is_joining i then joined before (outer_of c i) (inner_of c i) else before

@@ -1,3 +1,4 @@
+pub mod Clauses
 pub mod Lengths
-pub mod Tabled
+pub mod Opened
 pub mod Within

@@ -1,47 +1,23 @@
--- What the clauses of the sound state bound: depths, queues and deadlines, and so the ranks. Assumes nothing.
+-- What the clauses of the sound state bound: the deadlines, and so the ranks. Assumes nothing.
 use Prim.Native.Nat.{ℕ, ◌<◌, ◌≤◌}
-use mathlib.Core.Path.{◌≡◌, ap}
+use mathlib.Core.Path.{◌≡◌}
 use mathlib.Core.Bool.{true}
 use native.Mathlib.Omega.{arith}
-use native.Mathlib.Decide.{ℕ_discrete, dec_lt}
-use lib.ListN.{length, get_or-eq_default}
-use borrow.Author.Tests.{leb-true, eqb-true}
-use Rattle.search.specs.Below.{all_below}
-use Rattle.search.proofs.Tests.{tests, and_iff, and_left, all_below_at}
-use Rattle.queue.specs.Limits.{capacity}
-use Rattle.queue.specs.Waiting.{is_tidy}
-use Rattle.queue.specs.declared.Queue.{Queue}
-use Rattle.numbers.specs.Limits.{most_tasks, most_requests}
+use native.Mathlib.Decide.{ℕ_discrete}
+use borrow.Author.Tests.{eqb-true}
+use Rattle.search.proofs.Tests.{tests, and_iff, all_below_at}
+use Rattle.numbers.specs.Limits.{most_tasks}
 use Rattle.input.specs.Words.{period}
 use Rattle.setups.specs.Refusals.{setup_refusal}
 use Rattle.setups.proofs.Accepted.{accepted_iff}
-use Rattle.protocol.specs.Records.{no_task}
-use Rattle.protocol.specs.Words.{task, stand, deadline, depth}
-use Rattle.protocol.specs.Sound.{clock_sound, times_sound, requests_sound}
-use Rattle.protocol.specs.declared.Task.{Task}
+use Rattle.protocol.specs.Words.{task, stand, deadline}
+use Rattle.protocol.specs.Sound.{clock_sound, times_sound}
 use Rattle.protocol.specs.declared.State.{State}
 use Rattle.priorities.specs.Bounds.{latest, is_bounded}
 use Rattle.priorities.proofs.Ruled.{jobs_ruled}
 use Rattle.soundness.specs.Parts.{frame_sound, ViewIsRuled}
 
-pub tidy_len : (q : Queue) → is_tidy q ≡ true → q.len ≤ capacity
-unfolding is_tidy
-tidy_len q h = leb-true q.len capacity (and_left _ _ h)
-
 module _ (s : State) where
-  open_few : (t : ℕ) → requests_sound s.setup s t ≡ true → (task s t).depth ≤ most_requests
-  unfolding requests_sound depth
-  open_few t h = leb-true (task s t).depth most_requests (simp and_iff at h).0.0.0.0.0
-
-  -- of any task, also of one that there is not
-  pub depth_within : length s.tasks ≡ most_tasks → all_below most_tasks (requests_sound s.setup s) ≡ true → (t : ℕ) → (task s t).depth ≤ most_requests
-  depth_within e h t = elim (dec_lt t most_tasks) [
-    | yes l ↦ open_few t (all_below_at most_tasks (requests_sound s.setup s) h t l)
-    | no n ↦
-        let past : length s.tasks ≤ t = omega arith in
-        omega (arith, ap (λ (x : Task). x.depth) (get_or-eq_default s.tasks no_task past))
-  ]
-
   -- a period is a u16
   dated_within : clock_sound s.setup s ≡ true → (t : ℕ) → period s.setup t < 65536 → times_sound s.setup s t ≡ true → (task s t).deadline ≤ latest
   unfolding clock_sound times_sound deadline

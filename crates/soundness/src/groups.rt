@@ -1,117 +1,71 @@
 // Each group's holder and queue.
-ghost use Rattle.std.specs.Prelude.{◌≡◌, true, ℕ, ◌≤◌, get_or};
+ghost use Rattle.std.specs.Prelude.{◌≡◌, ◌<◌};
 ghost use Rattle.search.specs.Words.{◌is◌};
 ghost use Rattle.search.specs.Below.{all_below, any_below};
-ghost use Rattle.queue.specs.Limits.{capacity};
 ghost use Rattle.queue.specs.Waiting.{waiter, place_of};
-ghost use Rattle.numbers.specs.Limits.{most_tasks, most_resources, most_requests, nothing};
-ghost use Rattle.setups.specs.Naming.{names};
-ghost use Rattle.protocol.specs.Words.{absent, stand, task as task_record, group as group_record, asked as asked_by};
-ghost use Rattle.protocol.specs.Sound.{requests_sound, group_sound};
+ghost use Rattle.numbers.specs.Limits.{most_resources};
+ghost use Rattle.setups.specs.Naming.{group_of};
+ghost use Rattle.protocol.specs.Words.{depth, request};
+ghost use Rattle.protocol.specs.Sound.{group_sound};
 ghost use Rattle.soundness.specs.Opens.{waits_in};
 
-use crate::standings::{asked_of, stand_at};
+use crate::named::{Named, opened_by};
 use input::Setup;
 use numbers::Limit;
-use protocol::{Group, State, Task};
+use protocol::Task;
 use queue::Queue;
 
-// Some open request is in group `g`.
-fn some_in(
-    groups: [u8; Setup::RESOURCES],
-    requests: [u8; Task::REQUESTS],
-    depth: usize,
-    g: u8,
-) -> bool
-    requires { depth ≤ most_requests }
-    ensures { result ≡ any_below depth (λ i. get_or groups (get_or requests i nothing) nothing is g) }
-{
-    let mut some = false;
-    for i in 0..depth {
-        some = some | (setups::named_at(groups, states::request_at(requests, i)) == g);
-    }
-    some
-}
-
-// Every task in the queue waits, and for a resource of group `g`.
-fn all_wait_here(
-    stands: [u8; Setup::TASKS],
-    asked: [u8; Setup::TASKS],
-    groups: [u8; Setup::RESOURCES],
-    queue: Queue,
-    g: u8,
-) -> bool
-    requires { queue.len ≤ capacity }
-    ensures { result ≡ all_below queue.len (λ i. waits_in stands asked groups g (waiter queue i)) }
-{
-    let mut ok = true;
-    for i in 0..queue.len {
-        let t = queue.waiter(i);
-        ok = ok
-            & ((Task::SPINNING <= stand_at(stands, t))
-                & (setups::named_at(groups, states::number_at(asked, t)) == g));
-    }
-    ok
-}
-
 // No task is in the queue twice: each place is the first of its task.
-fn all_in_place(queue: Queue) -> bool
-    requires { queue.len ≤ capacity }
-    ensures { result ≡ all_below queue.len (λ i. place_of queue (waiter queue i) is i) }
+fn all_in_place(queue: &Queue) -> bool
+    ensures { result ≡ all_below queue.now.len (λ i. place_of queue.now (waiter queue.now i) is i) }
 {
-    let mut ok = true;
-    for i in 0..queue.len {
-        ok = ok & (queue.place_of(queue.waiter(i)) == i);
-    }
-    ok
+    (0..queue.len).all(|i| queue.place_of(queue.waiter(i)) == i)
 }
 
-// The clauses of group `g`, from its record, its holder's record, the groups' names, and each task's standing number
-// and resource asked for.
-fn group_holds(
-    group: Group,
-    task: Task,
-    naming: [u8; Setup::RESOURCES],
-    stands: [u8; Setup::TASKS],
-    asked: [u8; Setup::TASKS],
-    g: u8,
-) -> bool
-    requires { task.depth ≤ most_requests }
-    ensures { (s : State) → group ≡ group_record s g → task ≡ task_record s group.holder
-        → naming ≡ names s.setup → ((t : ℕ) → get_or stands t absent ≡ stand s t)
-        → ((t : ℕ) → get_or asked t nothing ≡ asked_by s t) → result ≡ group_sound s.setup s g }
-{
-    let holder = group.holder;
-    let queue = group.queue;
-    let requests = task.requests;
-    if queue.is_tidy() {
-        let held = (holder == Limit::NOBODY) | some_in(naming, requests, task.depth, g);
-        let waits = all_wait_here(stands, asked, naming, queue, g);
-        let placed = all_in_place(queue);
-        held & waits & placed & ((holder != Limit::NOBODY) | (queue.len == 0))
-    } else {
-        false
+impl Named<'_> {
+    // Some open request of task `t` is in group `g`.
+    fn has_open(&self, t: u8, g: u8) -> bool
+        requires { g < most_resources }
+        ensures { result ≡ any_below (depth self.now.state.now t) (λ i.
+            group_of self.now.state.now.setup (request self.now.state.now t i) is g) }
+    {
+        let task = self.task(t);
+        opened_by(&task).iter().any(|r| self.group_of(*r) == g)
     }
-}
 
-// The clauses of every group.
-pub fn all_groups(state: State, naming: [u8; Setup::RESOURCES]) -> bool
-    requires { (naming ≡ names state.setup) × (all_below most_tasks (requests_sound state.setup state) ≡ true) }
-    ensures { result ≡ all_below most_resources (group_sound state.setup state) }
-{
-    let tasks = state.tasks;
-    let stands = states::stands_of(tasks);
-    let asked = asked_of(tasks);
-    let mut ok = true;
-    for g in 0..Setup::RESOURCES {
-        let group = state.groups[g];
-        let h = group.holder as usize;
-        let task = if h < Setup::TASKS {
-            tasks[h]
-        } else {
-            states::no_task()
-        };
-        ok = ok & group_holds(group, task, naming, stands, asked, g as u8);
+    // Task `t` waits, and for a resource of group `g`.
+    fn waits_in(&self, g: u8, t: u8) -> bool
+        ensures { result ≡ waits_in self.now.state.now g t }
+    {
+        Task::SPINNING <= self.stand(t) && self.group_of(self.asked(t)) == g
     }
-    ok
+
+    // Every task in the queue waits, and for a resource of group `g`.
+    fn all_wait_here(&self, queue: &Queue, g: u8) -> bool
+        ensures { result ≡ all_below queue.now.len (λ i. waits_in self.now.state.now g (waiter queue.now i)) }
+    {
+        (0..queue.len).all(|i| self.waits_in(g, queue.waiter(i)))
+    }
+
+    // The clauses of group `g`.
+    fn group_holds(&self, g: u8) -> bool
+        requires { g < most_resources }
+        ensures { result ≡ group_sound self.now.state.now.setup self.now.state.now g }
+    {
+        let group = self.group(g);
+        let holder = group.holder;
+        let queue = group.queue;
+        (holder == Limit::NOBODY || self.has_open(holder, g))
+            && queue.is_tidy()
+            && self.all_wait_here(&queue, g)
+            && all_in_place(&queue)
+            && (holder != Limit::NOBODY || queue.len == 0)
+    }
+
+    // The clauses of every group.
+    pub fn all_groups(&self) -> bool
+        ensures { result ≡ all_below most_resources (group_sound self.now.state.now.setup self.now.state.now) }
+    {
+        (0..Setup::RESOURCES as u8).all(|g| self.group_holds(g))
+    }
 }

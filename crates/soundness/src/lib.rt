@@ -4,14 +4,15 @@
 use input::Setup;
 
 mod groups;
+mod named;
 mod requests;
-mod standings;
 mod tasks;
 mod testing;
 
 pub use testing::{is_sound, test};
 
-// Whether a state passes the test, and the names of its groups.
+// Whether a state passes the test, and the names of its groups: `test` promises the names of every state, passing or
+// not.
 #[derive(Clone, Copy)]
 pub struct Tested {
     pub passes: bool,

@@ -5,66 +5,46 @@ ghost use Rattle.protocol.specs.Sound.{sound};
 ghost use Rattle.soundness.specs.Parts.{frame_sound, locks_sound, placement_sound};
 
 use crate::Tested;
-use crate::groups::all_groups;
-use crate::requests::{all_requests, all_waiting};
-use crate::tasks::{all_empty, all_times};
-use input::Setup;
+use crate::named::Named;
 use protocol::State;
 
-// The set-up, the clock and the times. That the clock is at most its end needs no test, as it has 32 bits.
-fn frame_holds(state: State) -> bool
-    ensures { result ≡ frame_sound state }
-{
-    let setup = state.setup;
-    (setups::judge_setup(setup) == 0)
-        & setups::is_clear(setup)
-        & (setup.start <= state.clock)
-        & all_times(state)
-}
-
-// The open requests, the waiting jobs and the groups; `naming` has the groups' names. `all_groups` relies on the
-// clauses of the requests, so they are tested first.
-fn locks_hold(state: State, naming: [u8; Setup::RESOURCES]) -> bool
-    requires { naming ≡ names state.setup }
-    ensures { result ≡ locks_sound state }
-{
-    let groups = state.groups;
-    let holders = states::holders_of(groups);
-    if all_requests(state, naming, holders) {
-        all_waiting(state, naming) & all_groups(state, naming)
-    } else {
-        false
-    }
-}
-
 // Links and placements. The ranks are the rule's only within their bounds, which a sound set-up, clock and times
-// ensure.
+// ensure, and the types of the state's parts.
 fn placement_holds(state: State) -> bool
     requires { frame_sound state ≡ true }
     ensures { result ≡ placement_sound state }
 {
     let setup = state.setup;
-    let p = state.processors;
-    let kinds = setup.kinds;
-    let tasks = state.tasks;
-    let groups = state.groups;
-    let jobs = priorities::jobs_of(kinds, setup.resources, tasks, groups);
-    (p.count == setup.processors) & placement::is_placed(p, jobs)
+    let jobs = priorities::jobs_of(setup.kinds, setup.resources, state.tasks, state.groups);
+    state.processors.count == setup.processors && placement::is_placed(state.processors, jobs)
 }
 
-// Every clause; `naming` has the groups' names.
-fn all_hold(state: State, naming: [u8; Setup::RESOURCES]) -> bool
-    requires { naming ≡ names state.setup }
-    ensures { result ≡ sound state }
-{
-    if frame_holds(state) {
-        if locks_hold(state, naming) {
-            placement_holds(state) & all_empty(state)
-        } else {
-            false
-        }
-    } else {
-        false
+impl Named<'_> {
+    // The set-up, the clock and the times. That the clock is at most its end needs no test, as it has 32 bits.
+    #[tactic(auto, using(numbers::proofs::Answered::ok_answer), unfolding(protocol::specs::Sound::clock_sound))]
+    fn frame_holds(&self) -> bool
+        ensures { result ≡ frame_sound self.now.state.now }
+    {
+        let setup = self.state.setup;
+        setups::judge_setup(setup).is_ok()
+            && setups::is_clear(setup)
+            && setup.start <= self.state.clock
+            && self.all_times()
+    }
+
+    // The open requests, the waiting jobs and the groups.
+    fn locks_hold(&self) -> bool
+        ensures { result ≡ locks_sound self.now.state.now }
+    {
+        self.all_requests() && self.all_waiting() && self.all_groups()
+    }
+
+    // Every clause.
+    #[tactic(auto, using(crate::proofs::Clauses::sound_parts))]
+    fn all_hold(&self) -> bool
+        ensures { result ≡ sound self.now.state.now }
+    {
+        self.frame_holds() && self.locks_hold() && placement_holds(*self.state) && self.all_empty()
     }
 }
 
@@ -72,10 +52,13 @@ fn all_hold(state: State, naming: [u8; Setup::RESOURCES]) -> bool
 pub fn test(state: State) -> Tested
     ensures { result ≡ record { passes = sound state; naming = names state.setup } }
 {
-    let setup = state.setup;
-    let naming = setups::names_of(setup);
+    let naming = setups::names_of(state.setup);
+    let named = Named {
+        state: &state,
+        naming,
+    };
     Tested {
-        passes: all_hold(state, naming),
+        passes: named.all_hold(),
         naming,
     }
 }

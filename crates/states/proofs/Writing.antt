@@ -1,13 +1,14 @@
 -- Laws of lines: how one is built of the processors, and how it is written into a buffer. Assumes nothing.
 use Prim.Native.Nat.{ℕ, zero, suc, ◌+◌, ◌-◌, ◌*◌, ◌≤◌, ◌<◌}
 use mathlib.Core.Path.{◌≡◌, refl, sym, ap, ◌∙◌}
-use mathlib.Core.List.{List, [], ◌∷◌, ◌++◌, append-nil}
+use mathlib.Core.List.{List, [], ◌∷◌, ◌++◌, append-nil, append_assoc}
 use borrow.Author.Tests.{le-leb, lt-leb}
 use native.Mathlib.Nat.{add-zero, add-suc, suc-add}
 use native.Mathlib.Numerals.{add-one}
 use native.Mathlib.Omega.{arith}
-use lib.ListN.{length, get_or, set, take, replicate, length-set, length-append}
-use lib.Seq.{take-suc, length-take-le}
+use lib.ListN.{length, get_or, set, take, drop, replicate, length-set, length-append}
+use lib.Seq.{take-suc, length-take-le, sets, sets-eq, drop-drop}
+use borrow.Rule.Slice.PartMut.{put_mid}
 use Rattle.numbers.specs.Limits.{most_processors}
 use Rattle.processors.specs.Words.{link, runs}
 use Rattle.processors.specs.declared.Processors.{Processors}
@@ -36,6 +37,23 @@ written_turn bytes at text i h =
     let w : i ≤ length text = omega arith in
     let n : length (take i text) ≡ i = length-take-le i text w in
     rw (add-one i, take-suc text i 0 h) (rw n at (sym (written_more bytes at (take i text) (get_or text i 0))))
+
+written_sets : (bytes : List ℕ) (at : ℕ) (text : List ℕ) → written bytes at text ≡ sets bytes at text
+unfolding written
+written_sets bytes at [] = refl
+written_sets bytes at (x ∷ text) = written_sets (set bytes at x) (suc at) text
+
+-- what stood before it, the text, and what stood behind it
+pub written_parts : (bytes : List ℕ) (at : ℕ) (text : List ℕ) → at + length text ≤ length bytes
+    → written bytes at text ≡ take at bytes ++ (text ++ drop (at + length text) bytes)
+written_parts bytes at text fits = written_sets bytes at text ∙ sets-eq text bytes at fits ∙ append_assoc (take at bytes) text (drop (at + length text) bytes)
+
+-- the part of a buffer that it takes, filled with it
+pub written_part : (bytes : List ℕ) (at : ℕ) (text part : List ℕ) → at + length text ≤ length bytes → part ≡ text
+    → put_mid at (at + length text - at) bytes part ≡ written bytes at text
+written_part bytes at text part fits same =
+    let long : at + length text - at ≡ length text = omega arith in
+    rw (long, same, written_parts bytes at text fits, drop-drop (length text) at bytes)
 
 -- a text put where there is room for it, and where there is not
 pub put_whole : (bytes : List ℕ) (at : ℕ) (text : List ℕ) → at + length text ≤ length bytes → (at + length text, written bytes at text) ≡ put_at bytes at text

@@ -7,23 +7,19 @@ ghost use Rattle.input.specs.Words.{no_setup};
 use crate::records::{no_group, no_task};
 use input::Setup;
 use numbers::Refusal;
-use protocol::{Group, State, Task};
+use protocol::State;
 
 // The state of a set-up before any event: nobody has arrived.
+#[tactic(auto, unfolding(protocol::specs::Events::fresh))]
 fn fresh(setup: Setup) -> State
     ensures { result ≡ fresh_state setup }
 {
-    let task = no_task();
-    let group = no_group();
-    let tasks: [Task; Setup::TASKS] = [task; Setup::TASKS];
-    let groups: [Group; Setup::RESOURCES] = [group; Setup::RESOURCES];
-    let processors = processors::none_linked(setup.processors);
     State {
         setup,
         clock: setup.start,
-        tasks,
-        groups,
-        processors,
+        tasks: [no_task(); Setup::TASKS],
+        groups: [no_group(); Setup::RESOURCES],
+        processors: processors::none_linked(setup.processors),
     }
 }
 

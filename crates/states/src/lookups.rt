@@ -1,15 +1,15 @@
 // Tables of numbers, by task, by resource or by place: what is at a place, past the table too.
-ghost use Rattle.std.specs.Prelude.{◌≡◌, suc, min, get_or};
+ghost use Rattle.std.specs.Prelude.{◌≡◌, get_or};
 ghost use Rattle.search.specs.Words.{◌is◌};
 ghost use Rattle.search.specs.Below.{any_below};
 ghost use Rattle.search.specs.Table.{table};
 ghost use Rattle.input.specs.Words.{due_at};
-ghost use Rattle.numbers.specs.Limits.{most_resources, most_requests, nothing};
+ghost use Rattle.numbers.specs.Limits.{most_resources, nothing};
 ghost use Rattle.states.specs.Holders.{holder_in};
 
 use input::Setup;
-use numbers::Limit;
 use protocol::{Group, Task};
+use std::array;
 
 // The period of task `t`; 0 past the table.
 pub fn period_at(periods: [u16; Setup::TASKS], t: u8) -> u16
@@ -22,8 +22,7 @@ pub fn period_at(periods: [u16; Setup::TASKS], t: u8) -> u16
 pub fn due_at(setup: Setup, t: u8, now: u32) -> u64
     ensures { result ≡ due_at setup t now }
 {
-    let periods = setup.periods;
-    (now as u64) + (period_at(periods, t) as u64)
+    u64::from(now) + u64::from(period_at(setup.periods, t))
 }
 
 // The kind of resource `r`; short past the table.
@@ -33,19 +32,8 @@ pub fn kind_at(kinds: [u8; Setup::RESOURCES], r: u8) -> u8
     search::entry(&kinds, r as usize, Setup::SHORT)
 }
 
-// How many places to read of `depth` open requests, which may be any number: each place from the limit on reads
-// nothing, so one of those is enough.
-fn read_requests(depth: usize) -> usize
-    ensures { result ≡ min depth (suc most_requests) }
-{
-    if depth <= Task::REQUESTS {
-        depth
-    } else {
-        Task::REQUESTS + 1
-    }
-}
-
-// Some of the first `depth` requests is of kind `kind`. A place past the limit reads nothing, whose kind reads short.
+// Some of the first `depth` requests is of kind `kind`. `depth` may be any number: each place from the limit on reads
+// nothing, whose kind reads short, so one of those is enough.
 pub fn has_kind(
     kinds: [u8; Setup::RESOURCES],
     requests: [u8; Task::REQUESTS],
@@ -54,21 +42,13 @@ pub fn has_kind(
 ) -> bool
     ensures { result ≡ any_below depth (λ i. get_or kinds (get_or requests i nothing) 0 is kind) }
 {
-    let mut some = false;
-    for i in 0..read_requests(depth) {
-        some = some | (kind_at(kinds, numbers::number_at(&requests, i)) == kind);
-    }
-    some
+    let mut places = 0..depth.min(Task::REQUESTS + 1);
+    places.any(|i| kind_at(kinds, numbers::number_at(&requests, i)) == kind)
 }
 
 // The holder of each group, or nobody.
 pub fn holders_of(groups: [Group; Setup::RESOURCES]) -> [u8; Setup::RESOURCES]
     ensures { result ≡ table (holder_in groups) most_resources }
 {
-    let mut holders = [Limit::NOBODY; Setup::RESOURCES];
-    for g in 0..Setup::RESOURCES {
-        let group = groups[g];
-        holders[g] = group.holder;
-    }
-    holders
+    array::from_fn(|g| groups[g].holder)
 }

@@ -13,14 +13,12 @@ use processors::Processors;
 use protocol::{Situation, State, Task};
 
 // What the job of task `t` is doing.
+#[tactic(auto, unfolding(protocol::specs::Situations::situation, protocol::specs::Words::stand))]
 pub fn situation(state: State, t: u8) -> Situation
     ensures { result ≡ situation_rule state t }
 {
-    let tasks = state.tasks;
-    let p = state.processors;
-    let task = task_at(tasks, t);
-    let standing = task.standing;
-    situation_of(stand_of(standing), p, t)
+    let task = task_at(state.tasks, t);
+    situation_of(stand_of(task.standing), state.processors, t)
 }
 
 // The refusal of a finish, request or completion in a situation: 18, 26, 19 or 20. It tells a suspended job from one
@@ -41,25 +39,21 @@ pub fn situation_refusal(situation: Situation) -> Result<(), Refusal>
 pub fn totals_of(state: State, t: u8) -> [u32; Task::TOTALS]
     ensures { result ≡ (task_record state t).totals }
 {
-    let tasks = state.tasks;
-    let counted = task_at(tasks, t);
-    counted.totals
+    task_at(state.tasks, t).totals
 }
 
 // The task that processor `k` is linked to, or nobody.
 pub fn linked_to(state: State, k: usize) -> u8
     ensures { result ≡ link state.processors k }
 {
-    let p = state.processors;
-    processors::link_at(p, k)
+    processors::link_at(state.processors, k)
 }
 
 // The task that processor `k` runs, or nobody.
 pub fn running_on(state: State, k: usize) -> u8
     ensures { result ≡ runs state.processors k }
 {
-    let p = state.processors;
-    processors::runs_at(p, k)
+    processors::runs_at(state.processors, k)
 }
 
 // The snapshot of an event: its answer, and for each processor the linked and the running task after it.

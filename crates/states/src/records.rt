@@ -18,7 +18,7 @@ pub fn no_task() -> Task
         last: 0,
         requests: [Limit::NOTHING; Task::REQUESTS],
         depth: 0,
-        totals: [0u32; Task::TOTALS],
+        totals: [0; Task::TOTALS],
     }
 }
 
@@ -43,15 +43,5 @@ pub fn task_at(tasks: [Task; Setup::TASKS], t: u8) -> Task
 pub fn with_standing(task: Task, standing: Standing) -> Task
     ensures { result ≡ with_standing standing task }
 {
-    let requests = task.requests;
-    let totals = task.totals;
-    Task {
-        standing,
-        deadline: task.deadline,
-        arrived: task.arrived,
-        last: task.last,
-        requests,
-        depth: task.depth,
-        totals,
-    }
+    Task { standing, ..task }
 }

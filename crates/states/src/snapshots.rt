@@ -9,14 +9,11 @@ use protocol::State;
 pub fn put_snapshot(out: &mut [u8], at: usize, snapshot: [u8; State::SNAPSHOT]) -> usize
     ensures { (result, out.new) ≡ put_at out.old at snapshot }
 {
-    if out.len() < State::SNAPSHOT {
-        return at;
+    match at.checked_add(State::SNAPSHOT) {
+        Some(end) if end <= out.len() => {
+            out[at..end].copy_from_slice(&snapshot);
+            end
+        }
+        _ => at,
     }
-    if out.len() - State::SNAPSHOT < at {
-        return at;
-    }
-    for i in 0..State::SNAPSHOT {
-        out[at + i] = snapshot[i];
-    }
-    at + State::SNAPSHOT
 }

@@ -10,6 +10,7 @@ use input::Setup;
 use numbers::Limit;
 use processors::Processors;
 use protocol::{Lock, Situation, Standing, Task};
+use std::array;
 
 // The number of a standing.
 pub fn stand_of(standing: Standing) -> u8
@@ -18,10 +19,8 @@ pub fn stand_of(standing: Standing) -> u8
     match standing {
         Standing::Absent => Task::ABSENT,
         Standing::Active => Task::ACTIVE,
-        Standing::Waiting(lock) => match lock {
-            Lock::Short(_) => Task::SPINNING,
-            Lock::Long(_) => Task::SUSPENDED,
-        },
+        Standing::Waiting(Lock::Short(_)) => Task::SPINNING,
+        Standing::Waiting(Lock::Long(_)) => Task::SUSPENDED,
     }
 }
 
@@ -29,13 +28,7 @@ pub fn stand_of(standing: Standing) -> u8
 pub fn stands_of(tasks: [Task; Setup::TASKS]) -> [u8; Setup::TASKS]
     ensures { result ≡ table (λ t. standing_no (get_or tasks t no_task).standing) most_tasks }
 {
-    let mut stands = [0u8; Setup::TASKS];
-    for t in 0..Setup::TASKS {
-        let task = tasks[t];
-        let standing = task.standing;
-        stands[t] = stand_of(standing);
-    }
-    stands
+    array::from_fn(|t| stand_of(tasks[t].standing))
 }
 
 // The resource that a waiting job asked for, or nothing.
@@ -43,12 +36,8 @@ pub fn asked_of(standing: Standing) -> u8
     ensures { result ≡ asked_of standing }
 {
     match standing {
-        Standing::Absent => Limit::NOTHING,
-        Standing::Active => Limit::NOTHING,
-        Standing::Waiting(lock) => match lock {
-            Lock::Short(resource) => resource,
-            Lock::Long(resource) => resource,
-        },
+        Standing::Absent | Standing::Active => Limit::NOTHING,
+        Standing::Waiting(Lock::Short(resource) | Lock::Long(resource)) => resource,
     }
 }
 
@@ -56,19 +45,15 @@ pub fn asked_of(standing: Standing) -> u8
 pub fn situation_of(stand: u8, p: Processors, t: u8) -> Situation
     ensures { result ≡ situation_of stand p t }
 {
-    if stand == Task::ABSENT {
-        Situation::NoJob
-    } else if stand == Task::SUSPENDED {
-        Situation::Suspended
-    } else if processors::run_of(p, t) < Processors::LIMIT {
-        if stand == Task::SPINNING {
+    match stand {
+        Task::ABSENT => Situation::NoJob,
+        Task::SUSPENDED => Situation::Suspended,
+        _ if processors::run_of(p, t) < Processors::LIMIT => if stand == Task::SPINNING {
             Situation::Spinning
         } else {
             Situation::Running
-        }
-    } else if processors::link_of(p, t) < Processors::LIMIT {
-        Situation::LinkedOnly
-    } else {
-        Situation::Ready
+        },
+        _ if processors::link_of(p, t) < Processors::LIMIT => Situation::LinkedOnly,
+        _ => Situation::Ready,
     }
 }

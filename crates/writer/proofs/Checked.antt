@@ -1,15 +1,18 @@
--- A sealed block: it is what the stores of `put_block` leave, its bytes are those of its head and payload, and its
+-- A sealed block: it is what the copies of `put_block` leave, its bytes are those of its head and payload, and its
 -- check is right. A block of bytes with these bytes and a right check is the sealed one. Assumes nothing.
-use Prim.Native.Nat.{ℕ, ◌+◌, ◌-◌, ◌<◌}
-use mathlib.Core.Path.{◌≡◌, sym, ◌∙◌}
+use Prim.Native.Nat.{ℕ, ◌+◌, ◌-◌, ◌<◌, ◌≤◌}
+use mathlib.Core.Path.{◌≡◌, refl, sym, ◌∙◌}
 use mathlib.Core.Bool.{true}
 use mathlib.Core.List.{List, ◌++◌}
 use native.Mathlib.Omega.{arith}
 use native.Mathlib.Decide.{dec_lt}
-use lib.ListN.{length, get_or, set, drop, get_or-append}
+use lib.ListN.{length, get_or, drop, get_or-append, length-append, length-drop}
+use borrow.Rule.Slice.PartMut.{put_mid}
+use Rattle.std.proofs.Common.{append_assoc, append-nil}
+use Rattle.std.proofs.lemmas.List.{take_at, drop_at, drop-drop, drop_all, get_or-append_right}
 use borrow.Author.Tests.{lt-ltb, le-ltb}
 use Rattle.search.specs.Table.{table}
-use Rattle.search.proofs.Tables.{table_length, table_at, table_of, table_turn, table_all, table_same}
+use Rattle.search.proofs.Tables.{table_length, table_at, table_of}
 use Rattle.search.proofs.Tests.{tests}
 use Rattle.input.specs.Layout.{byte, word, low, high}
 use Rattle.blocks.specs.Sizes.{payload_at, check_at, block_size, payload_size}
@@ -19,23 +22,17 @@ use Rattle.blocks.specs.Verdicts.{payload}
 use Rattle.blocks.specs.declared.Check.{Check}
 use Rattle.blocks.proofs.Sums.{sums_same}
 use Rattle.writer.proofs.Few.{below_four}
-use Rattle.writer.specs.Sealed.{body_byte, body_into, check_behind, sealed_byte, sealed}
+use Rattle.writer.specs.Sealed.{body_byte, check_bytes, check_behind, sealed_byte, sealed}
 
--- the four stores of a check, and that they go on with a table
-abbrev stored : List ℕ → ℕ → ℕ → ℕ → ℕ → List ℕ
-stored l a b c d = set (set (set (set l check_at a) (check_at + 1) b) (check_at + 2) c) (check_at + 3) d
+-- a copy behind a front whose length is the copy's place: into what follows, and over all that follows
+copied_into : (front rest part : List ℕ) (n k : ℕ) → length front ≡ n
+    → put_mid n k (front ++ rest) part ≡ (front ++ part) ++ drop k rest
+copied_into front rest part n k e = rw (take_at front rest n e, drop_at front rest n e) (sym (append_assoc front part (drop k rest)))
 
-four_more : (f : ℕ → ℕ) (l : List ℕ) → length l ≡ block_size
-    → stored (table f check_at ++ drop check_at l) (f check_at) (f (check_at + 1)) (f (check_at + 2)) (f (check_at + 3))
-    ≡ table f block_size
-four_more f l e =
-    rw (
-      table_turn f l 508 (omega arith),
-      table_turn f l 509 (omega arith),
-      table_turn f l 510 (omega arith),
-      table_turn f l 511 (omega arith),
-    )
-    (table_all f l block_size e)
+copied_over : (now front rest part : List ℕ) (n k : ℕ) → now ≡ front ++ rest → length front ≡ n → length rest ≤ k
+    → put_mid n k now part ≡ front ++ part
+copied_over now front rest part n k e size few =
+    rw (e, take_at front rest n size, drop_at front rest n size, drop_all k rest few, append-nil part) refl
 
 module _ (head load : List ℕ) where
   sealed_body : (i : ℕ) → i < check_at → body_byte head load i ≡ sealed_byte head load i
@@ -56,14 +53,41 @@ module _ (head load : List ℕ) where
   unfolding sealed_byte check_behind
   check_at_lem c k = (rw k, rw k, rw k, rw k)
 
-  pub stores_seal : (l : List ℕ) (c : Check) → length l ≡ block_size → c ≡ check_of (table (body_byte head load) check_at)
-      → stored (body_into head load l) (low c.first) (high c.first) (low c.second) (high c.second)
-      ≡ sealed head load
-  unfolding sealed
-  stores_seal l c e k =
-      let z = check_at_lem c k in
-      let body = table_same (body_byte head load) (sealed_byte head load) check_at sealed_body in
-      rw (z.0, z.1, z.2, z.3, body) (four_more (sealed_byte head load) l e)
+  -- ---- what the three copies of `put_block` leave
+  module _ (few : length head ≡ payload_at) (many : length load ≡ payload_size) where
+    body_joined : head ++ load ≡ table (body_byte head load) check_at
+    unfolding body_byte
+    body_joined = table_of (body_byte head load) (head ++ load) check_at 0 (simp length-append (omega arith)) (λ i l. elim (dec_lt i payload_at) [
+      | yes h ↦ rw (lt-ltb i payload_at h) (get_or-append head load 0 i (omega arith))
+      | no h ↦ rw (le-ltb i payload_at (omega arith)) (get_or-append_right head load payload_at i 0 few (omega arith))
+    ])
+
+    sealed_joined : table (body_byte head load) check_at ++ check_behind head load ≡ sealed head load
+    unfolding sealed sealed_byte check_behind
+    sealed_joined =
+        let size = table_length (body_byte head load) check_at in
+        table_of (sealed_byte head load) (table (body_byte head load) check_at ++ check_behind head load) block_size 0 (simp length-append (omega arith)) (λ i l. elim (dec_lt i check_at) [
+          | yes h ↦ rw (lt-ltb i check_at h) (get_or-append (table (body_byte head load) check_at) (check_behind head load) 0 i (omega arith) ∙ table_at (body_byte head load) check_at i 0 h)
+          | no h ↦ rw (le-ltb i check_at (omega arith)) (get_or-append_right (table (body_byte head load) check_at) (check_behind head load) check_at i 0 size (omega arith))
+        ])
+
+    module _ (out : List ℕ) (long : length out ≡ block_size) where
+      abbrev pub two_copies : List ℕ
+      two_copies = put_mid payload_at payload_size (head ++ drop payload_at out) load
+
+      body_copied : two_copies ≡ (head ++ load) ++ drop check_at out
+      body_copied = copied_into head (drop payload_at out) load payload_at payload_size few ∙ rw drop-drop refl
+
+      pub three_copies : (check : List ℕ) → check ≡ check_bytes (check_of two_copies)
+          → put_mid check_at (length two_copies - check_at) two_copies check ≡ sealed head load
+      unfolding check_behind
+      three_copies check e =
+          let size : length (head ++ load) ≡ check_at = simp length-append (omega arith) in
+          let all : length two_copies ≡ block_size = rw body_copied (simp (length-append, length-drop) (omega arith)) in
+          let rest : length (drop check_at out) ≤ length two_copies - check_at = simp length-drop (omega (arith, all)) in
+          let own : check_of two_copies ≡ check_of (table (body_byte head load) check_at) = rw (body_copied, body_joined) (body_check (drop check_at out)) in
+          copied_over two_copies (head ++ load) (drop check_at out) check check_at _ body_copied size rest
+          ∙ rw (e, own, body_joined) sealed_joined
 
   -- ---- what is read of it
   pub sealed_length : length (sealed head load) ≡ block_size

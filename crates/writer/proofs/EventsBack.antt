@@ -15,8 +15,7 @@ use Rattle.search.proofs.Tests.{tests}
 use Rattle.input.specs.Layout.{byte, event_size, event_in, event_count, low, high, event_bytes}
 use Rattle.input.proofs.Bytes.{event_of_bytes}
 use Rattle.blocks.specs.Sizes.{payload_size, event_block, most_events}
-use Rattle.blocks.specs.Verdicts.{payload, count, is_blank, is_event_filled, verdict, used_part}
-use Rattle.blocks.specs.declared.Verdict.TheVariants.{Used}
+use Rattle.blocks.specs.Verdicts.{Used, payload, count, is_blank, is_event_filled, verdict, used_part}
 use Rattle.blocks.proofs.Numbers.{used_length}
 use Rattle.writer.specs.Sealed.{head_of, sealed}
 use Rattle.writer.specs.EventBlocks.{event_of, kept, events_byte, events_payload, block_of_events, event_rows, events_written, events_read}

@@ -16,8 +16,7 @@ use Rattle.input.specs.Layout.{byte, word, event_size, event_in, event_count, lo
 use Rattle.input.specs.declared.Event.{Event}
 use Rattle.blocks.specs.Sizes.{payload_at, payload_size, event_block, most_events}
 use Rattle.blocks.specs.OneByte.{AreBytes}
-use Rattle.blocks.specs.Verdicts.{payload, count, is_blank, is_event_filled, verdict, used_part}
-use Rattle.blocks.specs.declared.Verdict.TheVariants.{Used}
+use Rattle.blocks.specs.Verdicts.{Used, payload, count, is_blank, is_event_filled, verdict, used_part}
 use Rattle.blocks.proofs.Limits.{used_size_lem}
 use Rattle.blocks.proofs.Numbers.{used_length}
 use Rattle.writer.specs.Sealed.{head_of}

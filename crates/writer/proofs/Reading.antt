@@ -15,8 +15,7 @@ use Rattle.input.specs.Layout.{byte, word, low, high}
 use Rattle.input.specs.Words.{within}
 use Rattle.blocks.specs.Sizes.{kind_at, payload_at, block_size, last_index, numbers}
 use Rattle.blocks.specs.Check.{is_checked}
-use Rattle.blocks.specs.Verdicts.{kind_for, most_for, payload, count, is_filled, used_size, is_first, is_blank, block_rows, verdict, used_part, number_of}
-use Rattle.blocks.specs.declared.Verdict.TheVariants.{Used}
+use Rattle.blocks.specs.Verdicts.{Used, kind_for, most_for, payload, count, is_filled, used_size, is_first, is_blank, block_rows, verdict, used_part, number_of}
 use Rattle.blocks.specs.OneByte.{AreBytes}
 use Rattle.blocks.proofs.Numbers.{judge_none}
 use Rattle.writer.specs.Sealed.{head_of}

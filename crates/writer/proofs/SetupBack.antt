@@ -16,8 +16,7 @@ use Rattle.setups.specs.Clearing.{cleared, empty_from, is_clear}
 use Rattle.setups.specs.Sized.{Sized}
 use Rattle.setups.proofs.Cleared.{cleared_sized, cleared_clear}
 use Rattle.blocks.specs.Sizes.{payload_size, setup_block}
-use Rattle.blocks.specs.Verdicts.{payload, is_blank, is_setup_filled, verdict, used_part}
-use Rattle.blocks.specs.declared.Verdict.TheVariants.{Used}
+use Rattle.blocks.specs.Verdicts.{Used, payload, is_blank, is_setup_filled, verdict, used_part}
 use Rattle.writer.specs.Sealed.{head_of, sealed}
 use Rattle.writer.specs.SetupBlocks.{setup_byte, setup_payload, block_of_setup, setup_written}
 use Rattle.writer.specs.RoundTrip.{SetupAccepted, SetupBack}

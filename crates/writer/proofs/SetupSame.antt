@@ -19,8 +19,7 @@ use Rattle.setups.specs.Sized.{Sized}
 use Rattle.setups.proofs.Cleared.{clear_kept}
 use Rattle.blocks.specs.Sizes.{payload_size, payload_at, setup_block}
 use Rattle.blocks.specs.OneByte.{AreBytes}
-use Rattle.blocks.specs.Verdicts.{payload, count, is_blank, is_setup_filled, verdict, used_part}
-use Rattle.blocks.specs.declared.Verdict.TheVariants.{Used}
+use Rattle.blocks.specs.Verdicts.{Used, payload, count, is_blank, is_setup_filled, verdict, used_part}
 use Rattle.blocks.proofs.Limits.{used_size_lem}
 use Rattle.writer.specs.Sealed.{head_of}
 use Rattle.writer.specs.Written.{lent_rows}

@@ -8,8 +8,7 @@ use Rattle.setups.specs.Clearing.{cleared}
 use Rattle.setups.specs.Refusals.{setup_refusal}
 use Rattle.blocks.specs.Sizes.{block_size}
 use Rattle.blocks.specs.OneByte.{AreBytes}
-use Rattle.blocks.specs.Verdicts.{verdict, used_part}
-use Rattle.blocks.specs.declared.Verdict.TheVariants.{Used}
+use Rattle.blocks.specs.Verdicts.{Used, verdict, used_part}
 use Rattle.writer.specs.SetupBlocks.{setup_written}
 use Rattle.input.specs.Kinds.{no_event}
 use Rattle.writer.specs.EventBlocks.{kept, events_written, events_read}

@@ -1,54 +1,57 @@
 // A block made of its head, its payload and the check.
-ghost use Rattle.std.specs.Prelude.{◌≡◌, length};
+ghost use Rattle.std.specs.Prelude.{◌≡◌, ◌<◌, length, IsOkUnless};
+ghost use Rattle.std.specs.Result.{OkIff};
+ghost use Rattle.numbers.specs.declared.answers.Refusal.TheVariants.{RoomWrong};
+ghost use Rattle.blocks.specs.Check.{modulus};
 ghost use Rattle.blocks.specs.Sizes.{block_size};
-ghost use Rattle.writer.specs.Sealed.{head_of, body_byte, body_into, sealed};
+ghost use Rattle.blocks.specs.Verdicts.{kind_for};
+ghost use Rattle.blocks.specs.Kinds.{is_setup};
+ghost use Rattle.writer.specs.Sealed.{head_of, check_bytes, sealed};
 
-use blocks::Block;
-use input::{high, low};
+use blocks::{Block, BlockKind, Check};
+use numbers::Refusal;
 
 // The bytes of the payload.
 pub const PAYLOAD: usize = Block::CHECK_AT - Block::PAYLOAD_AT;
 
 // The head of a block: its number, its kind and its record count.
-pub fn head_of(index: u64, kind: u8, count: u8) -> [u8; Block::PAYLOAD_AT]
-    ensures { result ≡ head_of index kind count }
+pub fn head_of(index: u64, kind: BlockKind, count: u8) -> [u8; Block::PAYLOAD_AT]
+    ensures { result ≡ head_of index (kind_for (is_setup kind)) count }
 {
-    let number = (index % Block::NUMBERS) as u16;
-    [low(number), high(number), kind, count]
+    let [low, high] = ((index % Block::NUMBERS) as u16).to_le_bytes();
+    [low, high, u8::from(kind), count]
 }
 
-// The byte at place `i` of the block, before the check.
-fn body_byte(head: &[u8], payload: &[u8], i: usize) -> u8
-    ensures { result ≡ body_byte head.now payload.now i }
+// The check as bytes: the first sum, then the second.
+fn check_bytes(check: Check) -> [u8; Block::SIZE - Block::CHECK_AT]
+    requires first { check.first < modulus }
+    requires second { check.second < modulus }
+    ensures { result ≡ check_bytes check }
 {
-    if i < Block::PAYLOAD_AT {
-        input::byte_at(head, i)
+    let [first_low, first_high] = (check.first as u16).to_le_bytes();
+    let [second_low, second_high] = (check.second as u16).to_le_bytes();
+    [first_low, first_high, second_low, second_high]
+}
+
+// A lent block has to have the bytes of a block.
+pub fn check_room(out: &[u8]) -> Result<(), Refusal>
+    ensures ok { OkIff result (length out.now ≡ block_size) tt }
+    ensures err { IsOkUnless result RoomWrong }
+{
+    if out.len() == Block::SIZE {
+        Ok(())
     } else {
-        input::byte_at(payload, i - Block::PAYLOAD_AT)
-    }
-}
-
-// Writes everything before the check.
-fn put_body(out: &mut [u8], head: &[u8], payload: &[u8])
-    requires { length out.old ≡ block_size }
-    ensures { out.new ≡ body_into head.now payload.now out.old }
-{
-    for i in 0..Block::CHECK_AT {
-        out[i] = body_byte(head, payload, i);
+        Err(Refusal::RoomWrong)
     }
 }
 
 // Writes a whole block, with its check.
-pub fn put_block(out: &mut [u8], head: &[u8], payload: &[u8])
+pub fn put_block(out: &mut [u8], head: [u8; Block::PAYLOAD_AT], payload: [u8; PAYLOAD])
     requires { length out.old ≡ block_size }
-    ensures { out.new ≡ sealed head.now payload.now }
+    ensures { out.new ≡ sealed head payload }
 {
-    put_body(out, head, payload);
-    let check = blocks::check_of(out);
-    let first = check.first as u16;
-    let second = check.second as u16;
-    out[Block::CHECK_AT] = low(first);
-    out[Block::CHECK_AT + 1] = high(first);
-    out[Block::CHECK_AT + 2] = low(second);
-    out[Block::CHECK_AT + 3] = high(second);
+    out[..Block::PAYLOAD_AT].copy_from_slice(&head);
+    out[Block::PAYLOAD_AT..Block::CHECK_AT].copy_from_slice(&payload);
+    let check = check_bytes(blocks::check_of(out));
+    out[Block::CHECK_AT..].copy_from_slice(&check);
 }

@@ -1,18 +1,20 @@
 // The block of a set-up.
 ghost use Rattle.std.specs.Prelude.{◌≡◌, ◌*◌, ◌<◌};
+ghost use Rattle.numbers.specs.Answers.{answer_of};
 ghost use Rattle.numbers.specs.Limits.{most_tasks, most_pairs};
 ghost use Rattle.writer.specs.SetupBlocks.{Counted, period_byte, pair_byte, setup_byte, setup_payload, setup_written};
 ghost use Rattle.writer.specs.SetupBlocks as spec;
 
-use crate::sealing::{PAYLOAD, head_of, put_block};
-use blocks::Block;
-use input::{Setup, high, low};
-use numbers::{Refusal, row};
+use crate::sealing::{PAYLOAD, check_room, head_of, put_block};
+use blocks::BlockKind;
+use input::Setup;
+use numbers::Refusal;
+use std::array;
 
 // The four counts.
-fn count_bytes(setup: Setup) -> [u8; Setup::START_AT]
-    requires { Counted setup }
-    ensures { result ≡ spec.count_bytes setup }
+fn count_bytes(setup: &Setup) -> [u8; Setup::START_AT]
+    requires { Counted setup.now }
+    ensures { result ≡ spec.count_bytes setup.now }
 {
     [
         setup.processors as u8,
@@ -23,31 +25,25 @@ fn count_bytes(setup: Setup) -> [u8; Setup::START_AT]
 }
 
 // The starting clock: four bytes, little-endian.
-fn start_bytes(setup: Setup) -> [u8; 4]
-    ensures { result ≡ spec.start_bytes setup }
+fn start_bytes(setup: &Setup) -> [u8; 4]
+    ensures { result ≡ spec.start_bytes setup.now }
 {
-    let first = (setup.start % 65536) as u16;
-    let second = (setup.start / 65536) as u16;
-    [low(first), high(first), low(second), high(second)]
+    setup.start.to_le_bytes()
 }
 
 // The byte at place `i` of the periods, two bytes each, little-endian.
-fn period_byte(setup: Setup, i: usize) -> u8
+fn period_byte(setup: &Setup, i: usize) -> u8
     requires { i < 2 * most_tasks }
-    ensures { result ≡ period_byte setup i }
+    ensures { result ≡ period_byte setup.now i }
 {
-    let period = setup.periods[i / 2];
-    if i % 2 == 0 {
-        low(period)
-    } else {
-        high(period)
-    }
+    let bytes = setup.periods[i / 2].to_le_bytes();
+    bytes[i % 2]
 }
 
 // The byte at place `i` of the pairs, each the outer and then the inner resource.
-fn pair_byte(setup: Setup, i: usize) -> u8
+fn pair_byte(setup: &Setup, i: usize) -> u8
     requires { i < 2 * most_pairs }
-    ensures { result ≡ pair_byte setup i }
+    ensures { result ≡ pair_byte setup.now i }
 {
     if i % 2 == 0 {
         setup.outer[i / 2]
@@ -57,9 +53,10 @@ fn pair_byte(setup: Setup, i: usize) -> u8
 }
 
 // The byte at place `i` of the payload, 0 after the tables.
-fn setup_byte(setup: Setup, i: usize) -> u8
-    requires { Counted setup }
-    ensures { result ≡ setup_byte setup i }
+#[tactic(auto, unfolding(crate::specs::SetupBlocks::setup_byte))]
+fn setup_byte(setup: &Setup, i: usize) -> u8
+    requires { Counted setup.now }
+    ensures { result ≡ setup_byte setup.now i }
 {
     if i < Setup::START_AT {
         let counts = count_bytes(setup);
@@ -82,31 +79,22 @@ fn setup_byte(setup: Setup, i: usize) -> u8
 }
 
 // The payload.
-fn setup_payload(setup: Setup) -> [u8; PAYLOAD]
-    requires { Counted setup }
-    ensures { result ≡ setup_payload setup }
+fn setup_payload(setup: &Setup) -> [u8; PAYLOAD]
+    requires { Counted setup.now }
+    ensures { result ≡ setup_payload setup.now }
 {
-    let mut payload = [0u8; PAYLOAD];
-    for i in 0..PAYLOAD {
-        payload[i] = setup_byte(setup, i);
-    }
-    payload
+    array::from_fn(|i| setup_byte(setup, i))
 }
 
-// Writes a set-up into a lent block. Returns 0, or the first refusal that applies; then the block stays as lent.
-pub fn write_setup(setup: Setup, out: &mut [u8]) -> u8
-    ensures { (result, out.new) ≡ setup_written setup out.old }
+// Writes a set-up into a lent block. On a refusal, the first that applies, the block stays as lent.
+#[tactic(auto, unfolding(crate::specs::SetupBlocks::setup_written))]
+pub fn write_setup(setup: Setup, out: &mut [u8]) -> Result<(), Refusal>
+    ensures { (answer_of result, out.new) ≡ setup_written setup out.old }
 {
-    let refusal = row(
-        Refusal::ROOM_WRONG,
-        out.len() != Block::SIZE,
-        setups::judge_setup(setup),
-    );
-    if refusal != 0 {
-        return refusal;
-    }
-    let head = head_of(0, Block::SETUP, 1);
-    let payload = setup_payload(setups::clear(setup));
-    put_block(out, &head, &payload);
-    0
+    check_room(out)?;
+    setups::judge_setup(setup)?;
+    let cleared = setups::clear(setup);
+    let head = head_of(0, BlockKind::Setup, 1);
+    put_block(out, head, setup_payload(&cleared));
+    Ok(())
 }

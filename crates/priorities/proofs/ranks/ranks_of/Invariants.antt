@@ -6,5 +6,5 @@ use Rattle.numbers.specs.Limits.{most_tasks, most_resources}
 use Rattle.priorities.proofs.Ruled.{rank_from}
 use Rattle.priorities.proofs.ranks.ranks_of.Given as goal
 
-abbrev pub invariant-loop-n : goal.invariant-loop-n
-invariant-loop-n l = (l.n ≤ l.count) × (l.count ≤ most_resources) × (l.ranks ≡ table (rank_from l.own l.kinds l.groups (l.count - l.n) l.n) most_tasks)
+abbrev pub invariant-loop-g : goal.invariant-loop-g
+invariant-loop-g l = (l.count ≤ most_resources) × (l.ranks ≡ table (rank_from l.own l.kinds l.groups l.g (l.count - l.g)) most_tasks)

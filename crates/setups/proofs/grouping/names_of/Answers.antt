@@ -1,22 +1,17 @@
--- `names_of` meets its contract. The loop's invariant: the names are those after the pairs passed. Assumes nothing.
-use mathlib.Core.Path.{◌≡◌}
-use native.Mathlib.Omega.{arith}
-use native.Mathlib.Numerals.{add-one}
+use mathlib.Core.Path.{◌∙◌}
 use borrow.Author.Rules.{rules}
-use Rattle.numbers.specs.Limits.{most_pairs}
-use Rattle.setups.specs.Naming.{names_after, names as names_of}
+use Rattle.std.proofs.lemmas.Iterator.{YieldsList-from_slice, YieldsList-from_take, YieldsList-from_zip}
+use Rattle.std.proofs.lemmas.Iterator.Consumers.{fold_from_yields_List}
+use Rattle.setups.specs.Sized.{Sized}
+use Rattle.setups.specs.Naming.{joined_pair}
+use Rattle.setups.proofs.Folded.{names_folded}
 use Rattle.setups.proofs.grouping.names_of.Goals as goal
 
-pub loop-i-init : goal.loop-i-init
-unfolding names_after
-loop-i-init c = search rules
-
-pub loop-i-preserved : goal.loop-i-preserved
-unfolding names_after
-loop-i-preserved c = (search rules, rw (add-one, ← c.loop-i.invariant.1) c.join_pair-next.ensures)
-
 pub returns : goal.returns
-unfolding names_of
 returns c =
-    let e : c.loop-i.i ≡ most_pairs = omega arith in
-    rw e at c.loop-i.invariant.1
+    let s = c.args.setup in
+    let z : Sized s = record { periods = search rules; kinds = search rules; outer = search rules; inner = search rules } in
+    fold_from_yields_List _ (joined_pair s) _ _ c.fold.ensures.ran
+    (YieldsList-from_take s.pairs (YieldsList-from_zip (YieldsList-from_slice s.outer (search rules)) (YieldsList-from_slice s.inner (search rules))) (search rules))
+    (λ a x b q k. search rules)
+    ∙ rw c.each_alone.ensures (names_folded s z)

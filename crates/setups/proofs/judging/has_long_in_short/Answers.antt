@@ -1,21 +1,12 @@
--- `has_long_in_short` meets its contract. The loop's invariant: `some` says that a pair passed puts a long inside a short. Assumes nothing.
-use mathlib.Core.Path.{◌≡◌}
-use native.Mathlib.Omega.{arith}
-use native.Mathlib.Numerals.{add-one}
 use borrow.Author.Rules.{rules}
-use Rattle.search.specs.Below.{any_below}
-use Rattle.numbers.specs.Limits.{most_pairs}
+use mathlib.Core.Bool.{◌&&◌}
+use Rattle.search.specs.Words.{◌is◌}
+use Rattle.input.specs.Kinds.{short, long}
+use Rattle.input.specs.Words.{kind}
+use Rattle.setups.proofs.Chained.{any_in_pairs}
 use Rattle.setups.proofs.judging.has_long_in_short.Goals as goal
-
-pub loop-i-init : goal.loop-i-init
-unfolding any_below
-loop-i-init c = search rules
-
-pub loop-i-preserved : goal.loop-i-preserved
-unfolding any_below
-loop-i-preserved c = (search rules, rw (add-one, c.loop-i.invariant.1, c.kind_of-inner.ensures, c.kind_of-outer.ensures))
 
 pub returns : goal.returns
 returns c =
-    let e : c.loop-i.i ≡ most_pairs = omega arith in
-    rw e at c.loop-i.invariant.1
+    let s = c.args.setup.now in
+    any_in_pairs c.any.new.self (λ a b. kind s a is short && kind s b is long) 0 (search rules) (search rules) (search rules) (search rules) (search rules) c.any.ensures.ran (λ x b q k. search rules)

@@ -1,21 +1,9 @@
--- `has_stray_pair` meets its contract. The loop's invariant: `some` says that a pair passed is stray. Assumes nothing.
-use mathlib.Core.Path.{◌≡◌}
-use native.Mathlib.Omega.{arith}
-use native.Mathlib.Numerals.{add-one}
 use borrow.Author.Rules.{rules}
-use Rattle.search.specs.Below.{any_below}
-use Rattle.numbers.specs.Limits.{most_pairs}
+use Rattle.setups.specs.Refusals.{is_stray_pair}
+use Rattle.setups.proofs.Chained.{any_in_pairs}
 use Rattle.setups.proofs.judging.has_stray_pair.Goals as goal
-
-pub loop-i-init : goal.loop-i-init
-unfolding any_below
-loop-i-init c = search rules
-
-pub loop-i-preserved : goal.loop-i-preserved
-unfolding any_below
-loop-i-preserved c = (search rules, rw (add-one, c.loop-i.invariant.1, c.is_stray-stray.ensures))
 
 pub returns : goal.returns
 returns c =
-    let e : c.loop-i.i ≡ most_pairs = omega arith in
-    rw e at c.loop-i.invariant.1
+    let n = c.args.setup.now.resources in
+    any_in_pairs c.any.new.self (is_stray_pair n) 0 (search rules) (search rules) (search rules) (search rules) (search rules) c.any.ensures.ran (λ x b q k. search rules)

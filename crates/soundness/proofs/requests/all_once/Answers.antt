@@ -1,19 +1,6 @@
--- The loop's invariant: `ok` says that the requests passed stand once. Assumes nothing.
-use mathlib.Core.Path.{◌≡◌}
-use native.Mathlib.Omega.{arith}
-use native.Mathlib.Numerals.{add-one}
-use borrow.Author.Rules.{rules}
-use Rattle.search.specs.Below.{all_below}
+use Rattle.std.proofs.Common.{rules}
+use Rattle.search.proofs.Chains.{all_in_range}
 use Rattle.soundness.proofs.requests.all_once.Goals as goal
 
-pub loop-i-init : goal.loop-i-init
-unfolding all_below
-loop-i-init c = search rules
-
-pub loop-i-preserved : goal.loop-i-preserved
-unfolding all_below
-loop-i-preserved c = (search rules, rw (add-one, c.loop-i.invariant.1, c.is_once-ok.ensures))
-
 pub returns : goal.returns
-returns c = let e : c.loop-i.i ≡ c.args.depth = omega arith in
-    rw e at c.loop-i.invariant.1
+returns c = all_in_range c.all.ensures.ran (λ x b q k. search rules)

@@ -1,21 +1,11 @@
--- The loop's invariant: the standings of the tasks passed are in the table. Assumes nothing.
-use mathlib.Core.Path.{◌≡◌, refl}
-use native.Mathlib.Omega.{arith}
-use lib.ListN.{get_or, replicate}
 use borrow.Author.Rules.{rules}
-use Rattle.search.proofs.Tables.{table_none, table_turn, table_all}
-use Rattle.numbers.specs.Limits.{most_tasks}
+use lib.ListN.{get_or}
 use Rattle.protocol.specs.Words.{standing_no}
 use Rattle.protocol.specs.Records.{no_task}
-use Rattle.states.proofs.Tables.{task_read}
+use Rattle.states.proofs.Tables.{made_below, task_read}
 use Rattle.states.proofs.standings.stands_of.Goals as goal
 
-pub loop-t-init : goal.loop-t-init
-loop-t-init c = (search rules, table_none (λ t. standing_no (get_or c.args.tasks t no_task).standing) _)
-
-pub loop-t-preserved : goal.loop-t-preserved
-loop-t-preserved c = (search rules, rw (c.loop-t.invariant.1, c.stand_of.ensures, task_read c.args.tasks c.loop-t.t (search rules)) (table_turn (λ t. standing_no (get_or c.args.tasks t no_task).standing) (replicate most_tasks 0) c.loop-t.t (search rules)))
-
 pub returns : goal.returns
-returns c = let e : c.loop-t.t ≡ most_tasks = omega arith in
-    rw (c.loop-t.invariant.1, e) (table_all (λ t. standing_no (get_or c.args.tasks t no_task).standing) (replicate most_tasks 0) most_tasks refl)
+returns c =
+    made_below {h = λ t. standing_no (get_or c.args.tasks t no_task).standing} c.from_fn.ensures.items
+    (λ x y q l k. let r = task_read c.args.tasks x (search rules) in rw (← r) (search rules))

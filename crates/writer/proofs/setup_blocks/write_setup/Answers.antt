@@ -1,50 +1,30 @@
 -- `write_setup` meets its contract. Assumes nothing.
-use mathlib.Core.Path.{◌≡◌}
-use Rattle.setups.specs.Refusals.{setup_rows, setup_refusal}
+use Rattle.std.proofs.Common.{rules, ◌≡◌, length, sym}
 use Rattle.numbers.specs.Rows.{first_of}
+use Rattle.blocks.specs.Sizes.{block_size}
+use Rattle.setups.specs.Refusals.{setup_rows, setup_refusal}
 use Rattle.writer.specs.Written.{lent_rows}
-use Rattle.writer.specs.SetupBlocks.{block_of_setup}
-use Rattle.writer.proofs.Answers.{setup_refused, setup_done, setup_lent, setup_counted}
+use Rattle.writer.specs.SetupBlocks.{block_of_setup, setup_written}
+use Rattle.writer.proofs.Answers.{cleared_counted, lent_zero, written_zero}
 use Rattle.writer.proofs.setup_blocks.write_setup.Goals as goal
 
-pub returns-then-refusal-ne0 : goal.returns-then-refusal-ne0
-unfolding setup_refusal
-returns-then-refusal-ne0 c =
-    let s = c.args in
-    let a = c.row-refusal in
-    let given : a.result ≡ first_of (lent_rows s.out.now (setup_rows s.setup)) =
-    rw c.judge_setup.ensures at a.ensures in
-    setup_refused s.setup s.out.now a.result given c.if-refusal-ne0.true
+pub returns-in_err-judge_setup : goal.returns-in_err-judge_setup
+unfolding setup_written setup_refusal
+returns-in_err-judge_setup c = search rules
 
-pub setup_payload-payload-requires : goal.setup_payload-payload-requires
+pub setup_payload-requires : goal.setup_payload-requires
 unfolding setup_refusal
-setup_payload-payload-requires c =
+setup_payload-requires c =
     let s = c.args in
-    let a = c.row-refusal in
-    let given : a.result ≡ first_of (lent_rows s.out.now (setup_rows s.setup)) =
-    rw c.judge_setup.ensures at a.ensures in
-    rw c.clear.ensures (setup_counted s.setup s.out.now a.result given c.if-refusal-ne0.false)
-
-pub put_block-requires : goal.put_block-requires
-unfolding setup_refusal
-put_block-requires c =
-    let s = c.args in
-    let a = c.row-refusal in
-    let given : a.result ≡ first_of (lent_rows s.out.now (setup_rows s.setup)) =
-    rw c.judge_setup.ensures at a.ensures in
-    setup_lent s.setup s.out.now a.result given c.if-refusal-ne0.false
+    let free : first_of (setup_rows s.setup) ≡ 0 = search rules in
+    rw c.clear-cleared.ensures (cleared_counted s.setup free)
 
 pub returns : goal.returns
-unfolding setup_refusal block_of_setup
+unfolding setup_written block_of_setup setup_refusal
 returns c =
     let s = c.args in
-    let a = c.row-refusal in
-    let given : a.result ≡ first_of (lent_rows s.out.now (setup_rows s.setup)) =
-    rw c.judge_setup.ensures at a.ensures in
-    rw (
-      c.put_block.ensures,
-      c.setup_payload-payload.ensures,
-      c.clear.ensures,
-      c.head_of-head.ensures,
-    )
-    (setup_done s.setup s.out.now a.result given c.if-refusal-ne0.false)
+    let rows = setup_rows s.setup in
+    let free : first_of rows ≡ 0 = search rules in
+    let long : length s.out.now ≡ block_size = search rules in
+    rw (c.put_block.ensures, c.head_of-head.ensures, c.setup_payload.ensures, c.clear-cleared.ensures)
+    (sym (written_zero (lent_rows s.out.now rows) _ s.out.now (lent_zero s.out.now rows long free)))

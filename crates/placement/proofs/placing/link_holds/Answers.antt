@@ -1,9 +1,0 @@
-use Rattle.std.proofs.Common.{arith}
-use Rattle.std.proofs.lemmas.Grind.{common_steps}
-use Rattle.std.proofs.lemmas.Bool.Decides.{nat_tests}
-use Rattle.processors.specs.Words.{rank_of, mode_of}
-use Rattle.placement.proofs.placing.link_holds.Goals as goal
-
-pub returns : goal.returns
-unfolding rank_of mode_of
-returns c = grind (arith, common_steps, nat_tests)

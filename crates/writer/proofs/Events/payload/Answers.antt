@@ -1,0 +1,9 @@
+-- `payload` meets its contract. Assumes nothing.
+use Rattle.std.proofs.Common.{rules}
+use Rattle.search.proofs.Chains.{made_table}
+use Rattle.writer.specs.EventBlocks.{events_payload}
+use Rattle.writer.proofs.Events.payload.Goals as goal
+
+pub returns : goal.returns
+unfolding events_payload
+returns c = made_table c.from_fn.ensures.items (λ i b q k. search rules)
