@@ -10,7 +10,7 @@ use numbers::Limit;
 
 // The task that each processor is linked to, and the task that it runs; both nobody from `count` on. A state may hold
 // any count and any tasks, and the definitions (`link`, `runs`) read the two lists, so they stay beside each other.
-#[derive(Clone, Copy)]
+#[derive(Clone, Copy, PartialEq, Eq)]
 pub struct Processors {
     pub count: usize,
     pub linked: [u8; Processors::LIMIT],

@@ -8,7 +8,7 @@ use numbers::Limit;
 
 // The first `len` places hold the waiting tasks, the others nobody. A session has fixed memory, and a state may hold
 // any places and any length, so the two stay beside each other.
-#[derive(Clone, Copy)]
+#[derive(Clone, Copy, PartialEq, Eq)]
 pub struct Queue {
     pub tasks: [u8; Queue::CAPACITY],
     pub len: usize,
