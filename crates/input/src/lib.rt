@@ -80,7 +80,7 @@ pub struct Event {
 }
 
 impl Event {
-    // The kinds of event.
+    // The numbers of the kinds of event; see `Kind`.
     pub const ARRIVAL: u8 = 1;
 
     pub const FINISH: u8 = 2;

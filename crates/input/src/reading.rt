@@ -57,10 +57,10 @@ pub fn setup_from(part: &[u8]) -> Setup
     ensures { result ≡ setup_in part.now }
 {
     Setup {
-        processors: byte_at(part, 0) as usize,
-        tasks: byte_at(part, 1) as usize,
-        resources: byte_at(part, 2) as usize,
-        pairs: byte_at(part, 3) as usize,
+        processors: usize::from(byte_at(part, 0)),
+        tasks: usize::from(byte_at(part, 1)),
+        resources: usize::from(byte_at(part, 2)),
+        pairs: usize::from(byte_at(part, 3)),
         start: start_in(part),
         periods: periods_in(part),
         kinds: kinds_in(part),

@@ -15,7 +15,7 @@ use std::array;
 pub fn period_at(periods: [u16; Setup::TASKS], t: u8) -> u16
     ensures { result ≡ get_or periods t 0 }
 {
-    search::entry(&periods, t as usize, 0)
+    search::entry(&periods, usize::from(t), 0)
 }
 
 // The deadline of a job of task `t` that arrives at `now`.
@@ -29,7 +29,7 @@ pub fn due_at(setup: Setup, t: u8, now: u32) -> u64
 pub fn kind_at(kinds: [u8; Setup::RESOURCES], r: u8) -> u8
     ensures { result ≡ get_or kinds r 0 }
 {
-    search::entry(&kinds, r as usize, Setup::SHORT)
+    search::entry(&kinds, usize::from(r), Setup::SHORT)
 }
 
 // Some of the first `depth` requests is of kind `kind`. `depth` may be any number: each place from the limit on reads

@@ -36,7 +36,7 @@ pub fn no_group() -> Group
 pub fn task_at(tasks: [Task; Setup::TASKS], t: u8) -> Task
     ensures { result ≡ get_or tasks t no_task }
 {
-    search::entry(&tasks, t as usize, no_task())
+    search::entry(&tasks, usize::from(t), no_task())
 }
 
 // The task with another standing.
