@@ -64,6 +64,9 @@ module _ (block : List ℕ) (n w : ℕ) (all : AreWords block n) (next : w ≡ w
   unfolding plain_sums
   next_fits small = rw next (plain_sums_fit block (suc n) (omega arith) words_more)
 
+-- for a loop over the words
+pub ruleset next_word = (words_more, next_fits)
+
 -- one remainder of each, at the end, gives the check's sums
 pub plain_sums_rest : (block : List ℕ) (n : ℕ)
     → ((plain_sums block n).first % modulus ≡ (sums block n).first)

@@ -21,6 +21,7 @@ pub fn word_at(block: &[u8], i: usize) -> u16
 
 // The check that a block should have: the sums over the words before it. Each is added up plainly, and its remainder is
 // taken once, at the end: over so many words both stay below 2 to the 32 (`plain_sums_fit`).
+#[tactic(auto, using(crate::proofs::PlainSums::next_word), unfolding(crate::proofs::PlainSums::plain_sums))]
 pub fn check_of(block: &[u8]) -> Check
     ensures { result ≡ check_of block.now }
 {

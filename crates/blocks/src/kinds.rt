@@ -71,12 +71,15 @@ impl BlockKind {
     }
 }
 
-// The payload's bytes from `from` up to but not at `to` are 0.
+// The payload's bytes from `from` up to but not at `to` are 0. All of them are tested, as that takes less time than
+// to stop at the first that is not.
 fn is_blank(block: &[u8], from: usize, to: usize) -> bool
     requires { to ≤ payload_size }
     ensures { result ≡ is_blank block.now from to }
 {
-    (from..to).all(|i| input::byte_at(block, Block::PAYLOAD_AT + i) == 0)
+    (from..to).fold(true, |ok, i| {
+        ok & (input::byte_at(block, Block::PAYLOAD_AT + i) == 0)
+    })
 }
 
 // In a set-up block, table places past a count are 0, and so is all after the tables.
