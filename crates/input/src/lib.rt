@@ -14,7 +14,8 @@ pub use reading::{byte_at, event_at, event_count, setup_from, word_of};
 pub use writing::{event_bytes, high, low};
 
 // The counts, the starting clock, each task's period, each resource's kind, and the nesting pairs.
-// Places past a count are not read.
+// Places past a count are not read. A session has fixed memory, and any counts and any kinds get an answer, so the
+// counts stay beside the tables, and the kinds stay numbers.
 #[derive(Clone, Copy, PartialEq, Eq)]
 pub struct Setup {
     pub processors: usize,
@@ -70,7 +71,8 @@ impl Setup {
     }
 }
 
-// An event: its kind, the task and the resource that it names, and the console's tick.
+// An event: its kind, the task and the resource that it names, and the console's tick. Any number of a kind gets an
+// answer, so it stays a number; `Kind` is what it may be.
 #[derive(Clone, Copy, PartialEq, Eq)]
 pub struct Event {
     pub kind: u8,

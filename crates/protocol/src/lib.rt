@@ -33,7 +33,7 @@ pub enum Situation {
 }
 
 // A task's record. `last` is the clock of the last arrival, if the task has `arrived` at all. The open requests are
-// the first `depth`, oldest first.
+// the first `depth`, oldest first. A session has fixed memory, and a state may hold any depth, so it stays beside them.
 #[derive(Clone, Copy, PartialEq, Eq)]
 pub struct Task {
     pub standing: Standing,

@@ -12,7 +12,7 @@ use processors::Processors;
 use protocol::{Lock, Situation, Standing, Task};
 use std::array;
 
-// The number of a standing.
+// The number of a standing. It leaves out the resource asked for, so it is no `From`.
 pub fn stand_of(standing: Standing) -> u8
     ensures { result ≡ standing_no standing }
 {
