@@ -8,22 +8,33 @@ use crate::printed;
 use crate::reporting::{LENT, end_row, print_line};
 use blocks::Block;
 use input::Event;
-use lines::Line;
+use numbers::Refusal;
 use protocol::{State, Task};
 use std::io;
 
 // A buffer that is long enough for a line, and one that is not.
-const ENOUGH: usize = Line::LIMIT;
+const ENOUGH: usize = lines::LIMIT;
 
-const SHORT: usize = Line::LIMIT - 1;
+const SHORT: usize = lines::LIMIT - 1;
 
 // Prints the number that a call returned.
 fn tell(rt: &impl Print, call: u64, number: u8) -> io::Result<()> {
     println!(rt; "call {call} {number}")
 }
 
-// Prints a line's number and length, and how many bytes of the buffer were written.
-fn tell_line(rt: &impl Print, call: u64, line: Line, out: [u8; ENOUGH]) -> io::Result<()> {
+// Has a line written into a buffer of `room` bytes, and prints its number and length, and how many bytes of the
+// buffer were written.
+fn tell_line<F: FnOnce(&mut [u8]) -> Result<usize, Refusal>>(
+    rt: &impl Print,
+    call: u64,
+    room: usize,
+    write: F,
+) -> io::Result<()>
+    requires room { room ≤ line_limit }
+    requires callable { F.IsAlwaysCallable write }
+{
+    let mut out = [LENT; lines::LIMIT];
+    let line = write(&mut out[..room]);
     print!(rt; "call {call}")?;
     print_line(rt, line, &out)?;
     end_row(rt)
@@ -33,56 +44,65 @@ fn tell_line(rt: &impl Print, call: u64, line: Line, out: [u8; ENOUGH]) -> io::R
 fn state_lines(rt: &impl Print, call: u64, state: State, t: u8, room: usize) -> io::Result<()>
     requires { (call < 1000) × (room ≤ line_limit) }
 {
-    let mut out = [LENT; ENOUGH];
-    let line = lines::first_line(state, &mut out[0..room]);
-    tell_line(rt, call, line, out)?;
-    let mut out = [LENT; ENOUGH];
-    let line = lines::event_line(state, 1, 0, &mut out[0..room]);
-    tell_line(rt, call + 1, line, out)?;
-    let mut out = [LENT; ENOUGH];
-    let line = lines::task_line(state, t, &mut out[0..room]);
-    tell_line(rt, call + 2, line, out)
+    tell_line(rt, call, room, |out| lines::first_line(state, out))?;
+    tell_line(
+        rt,
+        call + 1,
+        room,
+        |out| lines::event_line(state, 1, 0, out),
+    )?;
+    tell_line(rt, call + 2, room, |out| lines::task_line(state, t, out))
 }
 
 // The lines that need no state.
 fn plain_lines(rt: &impl Print, call: u64, room: usize) -> io::Result<()>
     requires { (call < 1000) × (room ≤ line_limit) }
 {
-    let mut out = [LENT; ENOUGH];
-    let line = lines::block_line(Block::LAST_INDEX + 1, 32, &mut out[0..room]);
-    tell_line(rt, call, line, out)?;
-    let mut out = [LENT; ENOUGH];
-    let line = lines::setup_line(5, &mut out[0..room]);
-    tell_line(rt, call + 1, line, out)?;
-    let mut out = [LENT; ENOUGH];
-    let line = lines::places_line(12, 2, &[19, 0, 0, 2, 255], &mut out[0..room]);
-    tell_line(rt, call + 2, line, out)?;
-    let mut out = [LENT; ENOUGH];
-    let line = lines::totals_line(31, [u32::MAX; Task::TOTALS], &mut out[0..room]);
-    tell_line(rt, call + 3, line, out)
+    tell_line(
+        rt,
+        call,
+        room,
+        |out| lines::block_line(Block::LAST_INDEX + 1, 32, out),
+    )?;
+    tell_line(rt, call + 1, room, |out| lines::setup_line(5, out))?;
+    tell_line(
+        rt,
+        call + 2,
+        room,
+        |out| lines::places_line(12, 2, &[19, 0, 0, 2, 255], out),
+    )?;
+    tell_line(
+        rt,
+        call + 3,
+        room,
+        |out| lines::totals_line(31, [u32::MAX; Task::TOTALS], out),
+    )
 }
 
 // The verdict on a block of one event with this number, at an index.
 fn tell_verdict(rt: &impl Print, call: u64, number: u16, index: u64) -> io::Result<()> {
-    let block = event_block(number);
-    tell(
-        rt,
-        call,
-        blocks::number_of(blocks::judge_block(&block, index)),
-    )
+    let verdict = blocks::judge_block(&event_block(number), index);
+    tell(rt, call, numbers::answer_of(&verdict))
 }
 
 // An event of no kind, on a state that is sound, or is not.
 fn tell_answers(rt: &impl Print, call: u64, state: State) -> io::Result<()>
     requires { call < 1000 }
 {
-    tell(rt, call, locking::judge_event(state, Event::NONE))?;
-    let reply = locking::step(state, Event::NONE);
-    tell(rt, call + 1, reply.answer)?;
-    let mut written = [0u8; 34];
-    locking::play(state, &[0u8; 12], &mut written);
+    tell(
+        rt,
+        call,
+        numbers::answer_of(&locking::judge_event(state, Event::NONE)),
+    )?;
+    tell(
+        rt,
+        call + 1,
+        numbers::answer_of(&locking::step(state, Event::NONE)),
+    )?;
+    let mut written = [0u8; 2 * State::SNAPSHOT];
+    locking::play(state, &[0u8; 2 * Event::SIZE], &mut written);
     tell(rt, call + 2, written[0])?;
-    tell(rt, call + 3, written[17])
+    tell(rt, call + 3, written[State::SNAPSHOT])
 }
 
 // All calls, numbered from 1.

@@ -1,11 +1,10 @@
 // Both engines side by side: after each event of a file the answers and the whole states are compared, and the pages
 // of each block. Behind the files, sessions whose order is not that of their state, as calls.
-use crate::comparing::{is_same, same_bytes};
 use crate::printed;
 use crate::reporting::{end_row, print_answer, print_flag, print_number};
 use input::{Event, Setup};
 use numbers::Limit;
-use pages::{Page, Session};
+use pages::{Engine, Page, Session};
 use plain::{Order, Plain};
 use protocol::State;
 use std::io;
@@ -29,13 +28,9 @@ fn count_if(alike: bool, count: u64) -> u64 {
 
 // The session that a set-up begins with.
 pub fn begin(setup: Setup) -> Both {
-    let first = states::begin(setup);
-    let other = plain::begin(setup);
-    let state = first.state;
-    let session = other.session;
     Both {
-        state,
-        plain: session,
+        state: printed::begun(setup),
+        plain: printed::begun_plain(setup),
         events: 0,
         alike: 0,
         pages: 0,
@@ -47,44 +42,44 @@ pub fn begin(setup: Setup) -> Both {
 fn is_page_alike(session: Session, read: &[u8]) -> bool {
     let mut out = [0u8; Page::LIMIT];
     let mut other_out = [0u8; Page::LIMIT];
-    let page = pages::next_page(session, read, &mut out, false);
-    let other = pages::next_page(session, read, &mut other_out, true);
-    let after = page.session;
-    let other_after = other.session;
-    same_bytes(&out, &other_out) & (page.len == other.len) & is_same(after.state, other_after.state)
+    let page = pages::next_page(session, read, &mut out, Engine::Locking);
+    let other = pages::next_page(session, read, &mut other_out, Engine::Plain);
+    match (page, other) {
+        (Ok(page), Ok(other)) => {
+            out == other_out && page.len == other.len && page.session.state == other.session.state
+        }
+        _ => false,
+    }
 }
 
 // The session with one page more.
 pub fn with_page(both: Both, session: Session, read: &[u8]) -> Both {
-    let mut next = both;
-    next.pages = next.pages.wrapping_add(1);
-    next.alike_pages = count_if(is_page_alike(session, read), next.alike_pages);
-    next
+    Both {
+        pages: both.pages.wrapping_add(1),
+        alike_pages: count_if(is_page_alike(session, read), both.alike_pages),
+        ..both
+    }
 }
 
 // One event on both.
 fn step(both: Both, e: Event) -> Both {
     let first = locking::step(both.state, e);
     let other = plain::step(both.plain, e);
-    let state = first.state;
-    let session = other.session;
-    let alike = (first.answer == other.answer) & is_same(state, session.state);
-    let mut next = both;
-    next.state = state;
-    next.plain = session;
-    next.events = next.events.wrapping_add(1);
-    next.alike = count_if(alike, next.alike);
-    next
+    let state = first.unwrap_or(both.state);
+    let plain = other.unwrap_or(both.plain);
+    let alike = numbers::answer_of(&first) == numbers::answer_of(&other) && state == plain.state;
+    Both {
+        state,
+        plain,
+        events: both.events.wrapping_add(1),
+        alike: count_if(alike, both.alike),
+        ..both
+    }
 }
 
 // The events of a part on both.
 pub fn step_all(begun: Both, part: &[u8]) -> Both {
-    let mut both = begun;
-    for i in 0..input::event_count(part) {
-        let next = step(both, input::event_at(part, i));
-        both = next;
-    }
-    both
+    (0..input::event_count(part)).fold(begun, |both, i| step(both, input::event_at(part, i)))
 }
 
 // Prints after how many events the engines agreed, and in how many pages.
@@ -98,10 +93,10 @@ pub fn tell(rt: &impl Print, both: Both) -> io::Result<()> {
 // Prints an order: how many are pending, and the first four places.
 fn print_order(rt: &impl Print, order: Order) -> io::Result<()> {
     print_number(rt, order.pending as u64)?;
-    print_answer(rt, order.tasks[0])?;
-    print_answer(rt, order.tasks[1])?;
-    print_answer(rt, order.tasks[2])?;
-    print_answer(rt, order.tasks[3])
+    for task in &order.tasks[..4] {
+        print_answer(rt, *task)?;
+    }
+    Ok(())
 }
 
 // Prints a session's order, the answer to an event of this kind in it, and whether its state is as before; then the
@@ -113,12 +108,12 @@ fn tell_order(rt: &impl Print, session: Plain, kind: u8) -> io::Result<()> {
         resource: 0,
         tick: 9,
     };
-    let reply = plain::step(session, e);
-    let after = reply.session;
+    let stepped = plain::step(session, e);
+    let after = stepped.unwrap_or(session);
     print!(rt; "order")?;
     print_order(rt, session.order)?;
-    print_answer(rt, reply.answer)?;
-    print_flag(rt, is_same(session.state, after.state))?;
+    print_answer(rt, numbers::answer_of(&stepped))?;
+    print_flag(rt, after.state == session.state)?;
     print_order(rt, after.order)?;
     end_row(rt)
 }
@@ -126,13 +121,11 @@ fn tell_order(rt: &impl Print, session: Plain, kind: u8) -> io::Result<()> {
 // A session with these tasks in its first four places, and so many pending.
 fn with_order(session: Plain, places: [u8; 4], pending: usize) -> Plain {
     let mut tasks = [Limit::NOBODY; Setup::TASKS];
-    tasks[0] = places[0];
-    tasks[1] = places[1];
-    tasks[2] = places[2];
-    tasks[3] = places[3];
-    let order = Order { tasks, pending };
-    let state = session.state;
-    Plain { state, order }
+    tasks[..4].copy_from_slice(&places);
+    Plain {
+        order: Order { tasks, pending },
+        ..session
+    }
 }
 
 // The busy session in its order: task 2, task 0, task 1. With two jobs exchanged; with one counted too few; with a

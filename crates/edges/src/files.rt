@@ -6,7 +6,7 @@ use crate::engines::Both;
 use crate::writing::is_written_again;
 use blocks::Block;
 use input::Setup;
-use pages::{Page, Session};
+use pages::{Engine, Page, Session};
 use std::io;
 use std::io::Read;
 
@@ -22,20 +22,15 @@ struct Walk {
     both: Both,
 }
 
-// Writes the page of what was read, and returns the session after it.
+// Writes the page of what was read, and returns the session after it. The buffer is long enough for any page.
 fn write_page(rt: &impl Print, session: Session, read: &[u8]) -> io::Result<Session> {
     let mut out = [0u8; Page::LIMIT];
-    let page = pages::next_page(session, read, &mut out, false);
+    let page = pages::next_page(session, read, &mut out, Engine::Locking).unwrap_or(Page {
+        session,
+        len: 0,
+    });
     rt.write_all(&out[..page.len])?;
     Ok(page.session)
-}
-
-// How many blocks were written again, this one among them. No file is so long that the count wraps.
-fn count_again(again: u64, read: &[u8], index: u64) -> u64 {
-    if is_written_again(read, index) {
-        return again.wrapping_add(1);
-    }
-    again
 }
 
 // Both engines after a block that was accepted: what follows a refused one is not stepped through.
@@ -43,7 +38,7 @@ fn follow(both: Both, after: Session, read: &[u8], index: u64) -> Both {
     if after.over {
         return both;
     }
-    let part = blocks::used_part(read, blocks::judge_block(read, index));
+    let part = blocks::used_part(read, blocks::judge_block(read, index).ok());
     if index == 0 {
         engines::begin(input::setup_from(part))
     } else {
@@ -54,12 +49,12 @@ fn follow(both: Both, after: Session, read: &[u8], index: u64) -> Both {
 // The walk with what was read at an index: its page is written, and both engines go on.
 fn go_on(rt: &impl Print, walk: Walk, read: &[u8], index: u64) -> io::Result<Walk> {
     let session = walk.session;
-    let again = count_again(walk.again, read, index);
+    let again = u64::from(is_written_again(read, index));
     let after = write_page(rt, session, read)?;
     let both = follow(walk.both, after, read, index);
     Ok(Walk {
         session: after,
-        again,
+        again: walk.again.wrapping_add(again),
         both: engines::with_page(both, session, read),
     })
 }
@@ -95,11 +90,6 @@ fn take_block_of(
     go_on(rt, walk, &block[..got], index)
 }
 
-// How many bytes are left after a block.
-fn left_behind(left: usize) -> usize {
-    left.saturating_sub(Block::SIZE)
-}
-
 // Steps through a file of `len` bytes; what follows a refused block is read but not printed. At the end it prints how
 // many of all its blocks were written again byte for byte, and in how much the engines agreed.
 fn run_file(rt: &impl Print, input: &mut impl Read, len: usize) -> io::Result<()> {
@@ -112,7 +102,7 @@ fn run_file(rt: &impl Print, input: &mut impl Read, len: usize) -> io::Result<()
     let turns = len / Block::SIZE + 2;
     for index in 0..turns {
         walk = take_block_of(rt, input, walk, index as u64, left)?;
-        left = left_behind(left);
+        left = left.saturating_sub(Block::SIZE);
     }
     println!(rt; "written again {}", walk.again)?;
     engines::tell(rt, walk.both)
@@ -126,9 +116,7 @@ fn run_next(rt: &impl Print, input: &mut impl Read, number: u64) -> io::Result<b
         return Ok(false);
     }
     println!(rt; "case {number}")?;
-    let low = input::word_of(head[0], head[1]);
-    let high = input::word_of(head[2], head[3]);
-    run_file(rt, input, (low as usize) + 65536 * (high as usize))?;
+    run_file(rt, input, u32::from_le_bytes(head) as usize)?;
     Ok(true)
 }
 

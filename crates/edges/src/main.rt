@@ -4,7 +4,6 @@
 
 mod answers;
 mod calls;
-mod comparing;
 mod engines;
 mod files;
 mod hostile;

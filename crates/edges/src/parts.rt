@@ -3,7 +3,7 @@ ghost use Rattle.std.specs.Prelude.{◌≤◌};
 
 use crate::printed;
 use crate::reporting::{LENT, changed, end_row, print_number};
-use protocol::Reply;
+use protocol::State;
 use std::io;
 
 // Room for three events.
@@ -12,24 +12,16 @@ const ROOM: usize = 3 * State::SNAPSHOT;
 // Time passes to ticks 9 and 10; and a byte of a third event.
 const EVENTS: [u8; 13] = [5, 0, 0, 0, 9, 0, 5, 0, 0, 0, 10, 0, 5];
 
-// How many bytes were written, and how many of them from place `from` on.
-fn print_changes(rt: &impl Print, out: [u8; ROOM], from: usize) -> io::Result<()> {
-    print_number(rt, changed(&out, 0))?;
-    print_number(rt, changed(&out, from))
-}
-
 // Plays the first `len` bytes into a buffer of `room`, and prints how many events were played, the clock after them,
 // and how many bytes were written, in all and from place `from` on.
 fn tell_part(rt: &impl Print, len: usize, room: usize, from: usize) -> io::Result<()>
     requires { (len ≤ 13) × (room ≤ 51) }
 {
     let mut out = [LENT; ROOM];
-    let events = EVENTS;
-    let state = printed::busy();
-    let played = locking::play(state, &events[0..len], &mut out[0..room]);
-    let after = played.state;
-    print!(rt; "part {len} {room} {} {}", played.count, after.clock)?;
-    print_changes(rt, out, from)?;
+    let played = locking::play(printed::busy(), &EVENTS[..len], &mut out[..room]);
+    print!(rt; "part {len} {room} {} {}", played.count, played.state.clock)?;
+    print_number(rt, changed(&out, 0))?;
+    print_number(rt, changed(&out, from))?;
     end_row(rt)
 }
 

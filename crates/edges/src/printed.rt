@@ -1,45 +1,42 @@
 // RULES.md, 'The worked cases': the set-up of the printed case, and its state after five events.
 use input::{Event, Setup};
-use plain::Plain;
+use numbers::Limit;
+use plain::{Order, Plain};
 use protocol::State;
 
 // The set-up of the printed case, with this many processors.
 fn setup(processors: usize) -> Setup {
     let mut periods = [0u16; Setup::TASKS];
-    periods[0] = 100;
-    periods[1] = 200;
-    periods[2] = 50;
+    periods[..3].copy_from_slice(&[100, 200, 50]);
     Setup {
         processors,
         tasks: 3,
         resources: 1,
-        pairs: 0,
         start: 65530,
         periods,
-        kinds: [0u8; Setup::RESOURCES],
-        outer: [0u8; Setup::PAIRS],
-        inner: [0u8; Setup::PAIRS],
+        ..Setup::none()
     }
 }
 
-// The state that it begins with.
-pub fn state_on(processors: usize) -> State {
-    let reply = states::begin(setup(processors));
-    reply.state
+// The state that a set-up begins with; the empty one, if it is refused.
+pub fn begun(setup: Setup) -> State {
+    states::begin(setup).unwrap_or(states::empty())
 }
 
-// The state after an event of the printed case, whose only resource is 0.
-fn after(state: State, kind: u8, task: u8, tick: u16) -> State {
-    let reply = locking::step(
-        state,
-        Event {
-            kind,
-            task,
-            resource: 0,
-            tick,
+// The same on the plain engine. In the empty state nobody is pending.
+pub fn begun_plain(setup: Setup) -> Plain {
+    plain::begin(setup).unwrap_or(Plain {
+        state: states::empty(),
+        order: Order {
+            tasks: [Limit::NOBODY; Setup::TASKS],
+            pending: 0,
         },
-    );
-    reply.state
+    })
+}
+
+// The state that the printed case begins with, on this many processors.
+pub fn state_on(processors: usize) -> State {
+    begun(setup(processors))
 }
 
 // The set-up with a long resource as well, and a pair of it and the short one, which joins nothing: so it has a
@@ -54,34 +51,40 @@ pub fn busy_setup() -> Setup {
     setup
 }
 
-// The state of that set-up after five events. Task 1 holds resource 0 and runs on processor 1, to which task 2 is
-// linked; task 0 spins for it on processor 0.
-pub fn busy() -> State {
-    let begun = states::begin(busy_setup());
-    let first = after(begun.state, Event::ARRIVAL, 0, 65530);
-    let second = after(first, Event::ARRIVAL, 1, 65532);
-    let third = after(second, Event::REQUEST, 1, 65535);
-    let fourth = after(third, Event::ARRIVAL, 2, 2);
-    after(fourth, Event::REQUEST, 0, 4)
-}
-
-// The plain engine's session after an event of the printed case.
-fn plain_after(session: Plain, kind: u8, task: u8, tick: u16) -> Plain {
-    let e = Event {
+// An event of the printed case, whose only resource is 0.
+fn event(kind: u8, task: u8, tick: u16) -> Event {
+    Event {
         kind,
         task,
         resource: 0,
         tick,
-    };
-    plain::step(session, e).session
+    }
+}
+
+// The first five events of the printed case.
+fn events() -> [Event; 5] {
+    [
+        event(Event::ARRIVAL, 0, 65530),
+        event(Event::ARRIVAL, 1, 65532),
+        event(Event::REQUEST, 1, 65535),
+        event(Event::ARRIVAL, 2, 2),
+        event(Event::REQUEST, 0, 4),
+    ]
+}
+
+// The state of that set-up after five events. Task 1 holds resource 0 and runs on processor 1, to which task 2 is
+// linked; task 0 spins for it on processor 0.
+pub fn busy() -> State {
+    events().iter().fold(
+        begun(busy_setup()),
+        |state, e| locking::step(state, *e).unwrap_or(state),
+    )
 }
 
 // The busy state on the plain engine.
 pub fn busy_plain() -> Plain {
-    let begun = plain::begin(busy_setup()).session;
-    let first = plain_after(begun, Event::ARRIVAL, 0, 65530);
-    let second = plain_after(first, Event::ARRIVAL, 1, 65532);
-    let third = plain_after(second, Event::REQUEST, 1, 65535);
-    let fourth = plain_after(third, Event::ARRIVAL, 2, 2);
-    plain_after(fourth, Event::REQUEST, 0, 4)
+    events().iter().fold(
+        begun_plain(busy_setup()),
+        |x, e| plain::step(x, *e).unwrap_or(x),
+    )
 }

@@ -1,5 +1,5 @@
 // How results are printed: numbers in a row, and what was written into a lent buffer.
-use lines::Line;
+use numbers::Refusal;
 use std::io;
 
 // What the buffers hold before they are lent: a byte that no line has.
@@ -31,9 +31,9 @@ pub fn changed(out: &[u8], from: usize) -> u64 {
 }
 
 // A line's number and length, and how many bytes of the buffer were written.
-pub fn print_line(rt: &impl Print, line: Line, out: &[u8]) -> io::Result<()> {
-    print_answer(rt, line.number)?;
-    print_number(rt, line.len as u64)?;
+pub fn print_line(rt: &impl Print, line: Result<usize, Refusal>, out: &[u8]) -> io::Result<()> {
+    print_answer(rt, numbers::answer_of(&line))?;
+    print_number(rt, line.unwrap_or(0) as u64)?;
     print_number(rt, changed(out, 0))
 }
 

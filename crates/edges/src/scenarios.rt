@@ -1,90 +1,92 @@
 // Lines of scenarios: what becomes of each, and whether a block is written.
 use crate::reporting::{LENT, changed, end_row, print_flag};
 use blocks::Block;
-use scenario::{Draft, Item, Outcome};
+use scenario::{Draft, Item, Taken, Trouble};
 use std::io;
 
-// Prints what became of an item.
-fn print_outcome(rt: &impl Print, outcome: Outcome) -> io::Result<()> {
-    match outcome {
-        Outcome::Kept => print!(rt; " kept"),
-        Outcome::Written => print!(rt; " written"),
-        Outcome::Faulty(reason) => print!(rt; " faulty {reason}"),
-        Outcome::Refused(number) => print!(rt; " refused {number}"),
-    }
-}
+// Words that are not as expected.
+const BAD_WORDS: [&[u8]; 11] = [
+    b"tasks 5",
+    b"task 65536",
+    b"task # 5",
+    b"task 1 2",
+    b"start 4294967296",
+    b"resource Short",
+    b"pair 0 256",
+    b"arrive 0 65530",
+    b"pass @65536",
+    b"event 1 2 -3 @4",
+    b"event 1 2 3 @4 5",
+];
 
-// Takes an item, and prints what became of it and whether a block was written.
+// A set-up of two processors and a task, with events before it and items that come twice, which are faulty.
+const SETUP: [&[u8]; 9] = [
+    b"arrive 0 @65530",
+    b"block",
+    b"processors 2",
+    b"processors 2",
+    b"start 65530\r",
+    b"start 0",
+    b"",
+    b"\t # task 5",
+    b" task\t100#a remark",
+];
+
+// The first event ends the set-up; a block without events is not written.
+const EVENTS: [&[u8]; 7] = [
+    b"arrive 0 @65530",
+    b"task 100",
+    b"start 1",
+    b"event 255 255 255 @00000000000000000000065535",
+    b"block",
+    b"block",
+    b"pass @7",
+];
+
+// A pair of resources that do not exist: the set-up is refused, and again, as the draft stays as it was.
+const REFUSED: [&[u8]; 5] = [
+    b"processors 1",
+    b"task 5",
+    b"pair 0 1",
+    b"pass @0",
+    b"block",
+];
+
+// Takes an item, prints what became of it and whether a block was written, and returns the draft after it.
 fn take_item(rt: &impl Print, draft: Draft, item: Item) -> io::Result<Draft> {
     let mut block = [LENT; Block::SIZE];
     let taken = scenario::take_item(draft, item, &mut block);
     print!(rt; "line")?;
-    print_outcome(rt, taken.outcome)?;
+    match taken {
+        Ok(Taken::Kept(_)) => print!(rt; " kept")?,
+        Ok(Taken::Written(_)) => print!(rt; " written")?,
+        Err(Trouble::Faulty(reason)) => print!(rt; " faulty {reason}")?,
+        Err(Trouble::Refused(refusal)) => print!(rt; " refused {}", u8::from(refusal))?,
+    }
     print_flag(rt, changed(&block, 0) > 0)?;
     end_row(rt)?;
-    Ok(taken.draft)
+    match taken {
+        Ok(Taken::Kept(after) | Taken::Written(after)) => Ok(after),
+        Err(_) => Ok(draft),
+    }
 }
 
-// Takes a line.
-fn take(rt: &impl Print, draft: Draft, line: &[u8]) -> io::Result<Draft> {
-    take_item(rt, draft, scenario::read_line(line))
-}
-
-// Words that are not as expected.
-fn take_bad_words(rt: &impl Print, begun: Draft) -> io::Result<Draft> {
-    let named = take(rt, begun, b"tasks 5")?;
-    let period = take(rt, named, b"task 65536")?;
-    let none = take(rt, period, b"task # 5")?;
-    let more = take(rt, none, b"task 1 2")?;
-    let start = take(rt, more, b"start 4294967296")?;
-    let kind = take(rt, start, b"resource Short")?;
-    let pair = take(rt, kind, b"pair 0 256")?;
-    let tick = take(rt, pair, b"arrive 0 65530")?;
-    let large = take(rt, tick, b"pass @65536")?;
-    let sign = take(rt, large, b"event 1 2 -3 @4")?;
-    take(rt, sign, b"event 1 2 3 @4 5")
-}
-
-// A set-up of two processors and a task, with events before it and items that come twice, which are faulty.
-fn take_setup(rt: &impl Print, begun: Draft) -> io::Result<Draft> {
-    let early = take(rt, begun, b"arrive 0 @65530")?;
-    let empty = take(rt, early, b"block")?;
-    let sized = take(rt, empty, b"processors 2")?;
-    let resized = take(rt, sized, b"processors 2")?;
-    let started = take(rt, resized, b"start 65530\r")?;
-    let restarted = take(rt, started, b"start 0")?;
-    let blank = take(rt, restarted, b"")?;
-    let remark = take(rt, blank, b"\t # task 5")?;
-    take(rt, remark, b" task\t100#a remark")
-}
-
-// The first event ends the set-up; a block without events is not written.
-fn take_events(rt: &impl Print, begun: Draft) -> io::Result<Draft> {
-    let first = take(rt, begun, b"arrive 0 @65530")?;
-    let late = take(rt, first, b"task 100")?;
-    let twice = take(rt, late, b"start 1")?;
-    let zeros = take(rt, twice, b"event 255 255 255 @00000000000000000000065535")?;
-    let next = take(rt, zeros, b"block")?;
-    let again = take(rt, next, b"block")?;
-    take(rt, again, b"pass @7")
-}
-
-// A pair of resources that do not exist: the set-up is refused, and again, as the draft stays as it was.
-fn take_refused(rt: &impl Print, begun: Draft) -> io::Result<Draft> {
-    let sized = take(rt, begun, b"processors 1")?;
-    let listed = take(rt, sized, b"task 5")?;
-    let paired = take(rt, listed, b"pair 0 1")?;
-    let judged = take(rt, paired, b"pass @0")?;
-    take(rt, judged, b"block")
+// Takes lines, one after another.
+fn take_all(rt: &impl Print, begun: Draft, lines: &[&[u8]]) -> io::Result<Draft> {
+    let mut draft = begun;
+    for line in lines {
+        draft = take_item(rt, draft, scenario::read_line(line))?;
+    }
+    Ok(draft)
 }
 
 // One scenario with faulty lines, and one whose set-up is refused.
 pub fn run_all(rt: &impl Print) -> io::Result<()> {
-    let worded = take_bad_words(rt, scenario::begin())?;
-    let set = take_setup(rt, worded)?;
-    let happened = take_events(rt, set)?;
+    let worded = take_all(rt, scenario::begin(), &BAD_WORDS)?;
+    let set = take_all(rt, worded, &SETUP)?;
+    let happened = take_all(rt, set, &EVENTS)?;
     take_item(rt, happened, Item::Block)?;
-    let refused = take_refused(rt, scenario::begin())?;
+    let refused = take_all(rt, scenario::begin(), &REFUSED)?;
     take_item(rt, refused, Item::Block)?;
     Ok(())
 }

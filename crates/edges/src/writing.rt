@@ -1,11 +1,11 @@
 // Blocks that are written: those of the files again, and by call those that no file has, and those that are refused.
 ghost use Rattle.std.specs.Prelude.{◌≤◌};
 
-use crate::comparing::same_bytes;
 use crate::printed;
 use crate::reporting::{LENT, changed, end_row, print_answer, print_flag, print_number};
 use blocks::Block;
 use input::{Event, Setup};
+use numbers::Refusal;
 use std::io;
 use writer::Events;
 
@@ -28,50 +28,55 @@ const LARGEST: Event = Event {
     tick: 65535,
 };
 
-// Whether the writer accepts the set-up that was read of a block, and writes that block again byte for byte.
-fn is_setup_again(setup: Setup, block: &[u8]) -> bool {
+// Whether the writer accepts what was read of a block, and writes that block again byte for byte.
+fn is_again<F: FnOnce(&mut [u8]) -> Result<(), Refusal>>(block: &[u8], write: F) -> bool
+    requires { F.IsAlwaysCallable write }
+{
     let mut out = [LENT; Block::SIZE];
-    let answer = writer::write_setup(setup, &mut out);
-    (answer == 0) & same_bytes(&out, block)
-}
-
-// The same for events.
-fn are_events_again(events: Events, index: u64, block: &[u8]) -> bool {
-    let mut out = [LENT; Block::SIZE];
-    let answer = writer::write_events(events, index, &mut out);
-    (answer == 0) & same_bytes(&out, block)
+    write(&mut out).is_ok() && out.as_slice() == block
 }
 
 // Whether a block is read at its index and written again byte for byte. Nothing is read of one that the reader
 // refuses, and the writer refuses that.
 pub fn is_written_again(block: &[u8], index: u64) -> bool {
-    let part = blocks::used_part(block, blocks::judge_block(block, index));
+    let part = blocks::used_part(block, blocks::judge_block(block, index).ok());
     if index == 0 {
-        is_setup_again(input::setup_from(part), block)
+        is_again(
+            block,
+            |out| writer::write_setup(input::setup_from(part), out),
+        )
     } else {
-        are_events_again(writer::events_from(part), index, block)
+        is_again(
+            block,
+            |out| writer::write_events(writer::events_from(part), index, out),
+        )
     }
 }
 
 // Four bytes from a place on.
-fn print_four(rt: &impl Print, out: [u8; ROOM], from: usize) -> io::Result<()>
+fn print_four(rt: &impl Print, out: &[u8; ROOM], from: usize) -> io::Result<()>
     requires { from ≤ 508 }
 {
-    print_answer(rt, out[from])?;
-    print_answer(rt, out[from + 1])?;
-    print_answer(rt, out[from + 2])?;
-    print_answer(rt, out[from + 3])
+    for byte in &out[from..from + 4] {
+        print_answer(rt, *byte)?;
+    }
+    Ok(())
 }
 
 // Prints the answer and how many bytes were written; of a written block also its head, its check, and whether it is
 // written again once it is read.
-fn print_written(rt: &impl Print, answer: u8, out: [u8; ROOM], index: u64) -> io::Result<()> {
-    print_answer(rt, answer)?;
-    print_number(rt, changed(&out, 0))?;
-    if answer == 0 {
+fn print_written(
+    rt: &impl Print,
+    written: Result<(), Refusal>,
+    out: &[u8; ROOM],
+    index: u64,
+) -> io::Result<()> {
+    print_answer(rt, numbers::answer_of(&written))?;
+    print_number(rt, changed(out, 0))?;
+    if written.is_ok() {
         print_four(rt, out, 0)?;
         print_four(rt, out, Block::CHECK_AT)?;
-        print_flag(rt, is_written_again(&out[0..Block::SIZE], index))?;
+        print_flag(rt, is_written_again(&out[..Block::SIZE], index))?;
     }
     end_row(rt)
 }
@@ -81,9 +86,9 @@ fn tell_setup(rt: &impl Print, setup: Setup, room: usize) -> io::Result<()>
     requires { room ≤ 513 }
 {
     let mut out = [LENT; ROOM];
-    let answer = writer::write_setup(setup, &mut out[0..room]);
+    let written = writer::write_setup(setup, &mut out[..room]);
     print!(rt; "write set-up")?;
-    print_written(rt, answer, out, 0)
+    print_written(rt, written, &out, 0)
 }
 
 // Writes the first `count` of events that are all `e` but for the mixed one in front, and prints the result.
@@ -93,9 +98,9 @@ fn tell_events(rt: &impl Print, e: Event, count: usize, index: u64, room: usize)
     let mut of = [e; Events::MOST];
     of[0] = MIXED;
     let mut out = [LENT; ROOM];
-    let answer = writer::write_events(Events { of, count }, index, &mut out[0..room]);
+    let written = writer::write_events(Events { of, count }, index, &mut out[..room]);
     print!(rt; "write events")?;
-    print_written(rt, answer, out, index)
+    print_written(rt, written, &out, index)
 }
 
 // The set-up with the fault that has that number; with 0, without any.
@@ -133,8 +138,9 @@ fn past_counts() -> Setup {
 fn tell_past_counts(rt: &impl Print) -> io::Result<()> {
     let mut out = [LENT; Block::SIZE];
     print!(rt; "past counts")?;
-    print_answer(rt, writer::write_setup(past_counts(), &mut out))?;
-    let back = input::setup_from(blocks::used_part(&out, blocks::judge_block(&out, 0)));
+    let written = writer::write_setup(past_counts(), &mut out);
+    print_answer(rt, numbers::answer_of(&written))?;
+    let back = input::setup_from(blocks::used_part(&out, blocks::judge_block(&out, 0).ok()));
     print_number(rt, back.periods[3] as u64)?;
     print_answer(rt, back.kinds[2])?;
     print_answer(rt, back.outer[1])?;

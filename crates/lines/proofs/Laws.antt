@@ -1,19 +1,16 @@
--- Laws of texts put into a buffer, and of lines. Assumes nothing.
+-- Laws of texts put into a buffer. Assumes nothing.
 use Prim.Native.Nat.{ℕ, zero, suc, ◌+◌, ◌-◌, ◌/◌, ◌≤◌, ◌<◌}
 use mathlib.Core.Path.{◌≡◌, refl, sym, ap, ◌∙◌}
-use mathlib.Core.Bool.{Bool, true, false}
 use mathlib.Core.List.{List, [], ◌++◌}
 use native.Mathlib.Numerals.{add-one}
 use native.Mathlib.Omega.{arith}
 use lib.ListN.{length, length-append}
 use borrow.Author.Tests.{lt-ltb, le-ltb, eq-eqb, ne_eqb}
-use Rattle.search.specs.Words.{◌is◌}
-use Rattle.numbers.specs.Rows.{Row, ◌when◌, ◌otherwise◌}
 use Rattle.numbers.specs.Limits.{nothing}
 use Rattle.states.specs.Writing.{written}
 use Rattle.states.proofs.Writing.{written_join}
 use Rattle.search.specs.Texts.{codes, digit, digits, decimal, most_digits, each_text}
-use Rattle.lines.specs.Buffers.{Put, line_limit, line_into, narrow}
+use Rattle.lines.specs.Buffers.{Put}
 use Rattle.lines.specs.Texts.{task_text, place_text}
 
 -- ---- texts
@@ -72,24 +69,3 @@ task_some {t} some = rw (ne_eqb t nothing some)
 
 pub place_long : (linked running : ℕ) → length (place_text linked running) ≡ length (task_text linked) + length (task_text running) + 2
 place_long linked running = simp length-append (omega arith)
-
--- ---- lines
-module _ (text out : List ℕ) where
-  -- a row that applies refuses the line, and one that does not leaves it to the next
-  pub line_refused : (n : ℕ) {b : Bool} (rows : List Row) → (n is 0) ≡ false → b ≡ true → (record { number = n; len = 0 }, out) ≡ line_into (n when b otherwise rows) text out
-  unfolding line_into
-  line_refused n rows some applies = rw (applies, some)
-
-  pub line_passed : (n : ℕ) {b : Bool} (rows : List Row) → b ≡ false → line_into rows text out ≡ line_into (n when b otherwise rows) text out
-  unfolding line_into
-  line_passed n rows leaves = rw leaves
-
-  -- a buffer that is too small, and a whole line
-  pub line_narrow : length out < line_limit → (record { number = 36; len = 0 }, out) ≡ line_into (narrow out) text out
-  line_narrow few = line_refused 36 [] refl (lt-ltb _ _ few)
-
-  pub line_put : {len : ℕ} {after : List ℕ} → line_limit ≤ length out → Put out 0 text len after → (record { number = 0; len = len }, after) ≡ line_into (narrow out) text out
-  unfolding line_into
-  line_put room p =
-      let e : length text ≡ 0 + length text = omega arith in
-      rw (le-ltb (length out) line_limit room, p.place, p.bytes, ← e)

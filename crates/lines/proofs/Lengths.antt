@@ -82,3 +82,5 @@ setup_short refusal a = simp length-append (omega (arith, byte_short refusal a))
 pub line_short : (rows : List Row) (text out : List ℕ) → length text ≤ line_limit → (line_into rows text out).0.len ≤ line_limit
 unfolding line_into
 line_short rows text out h = elim (ℕ_discrete (first_of rows) 0) [ yes e ↦ rw (eq-eqb (first_of rows) 0 e) h | no d ↦ rw (ne_eqb (first_of rows) 0 d) (omega arith) ]
+
+pub ruleset widths = (number_short, total_digits, byte_short, total_short, place_short, length-append)

@@ -1,4 +1,7 @@
+pub mod Written
 pub mod Laws
+pub mod Pens
+pub mod Lines
 pub mod Lengths
 pub mod Values
 pub mod Numbers

@@ -8,7 +8,7 @@ use Rattle.input.specs.Layout.{byte}
 use Rattle.states.specs.Writing.{written}
 use Rattle.search.specs.Texts.{codes, decimal, numbered, each_text}
 use Rattle.lines.specs.Texts.{first_text, place_text, task_line_text, block_text, setup_text}
-use Rattle.lines.specs.declared.Line.{Line}
+use Rattle.lines.specs.Lines.{Line}
 
 -- a text written into a buffer from `at` on: the next write position, and the buffer after
 pub record Put (before : List ℕ) (at : ℕ) (text : List ℕ) (behind : ℕ) (after : List ℕ) : Type 0 where

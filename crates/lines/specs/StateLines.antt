@@ -8,10 +8,10 @@ use Rattle.protocol.specs.declared.State.{State}
 use Rattle.states.specs.Writing.{snapshot_of}
 use Rattle.lines.specs.Texts.{first_text, task_line_text}
 use Rattle.lines.specs.Buffers.{event_text, line_into, narrow}
-use Rattle.lines.specs.declared.Line.{Line}
+use Rattle.lines.specs.Lines.{Line}
 
 -- the refusal of a state that is not sound, and then the later ones
-abbrev unsound : State → List Row → List Row
+abbrev pub unsound : State → List Row → List Row
 unsound s later = not_sound when not (sound s) otherwise later
 
 -- the refusals of a line of a state: 9, 36

@@ -8,14 +8,5 @@ mod writing;
 pub use of_numbers::{block_line, counts_line, places_line, setup_line, totals_line};
 pub use of_states::{event_line, first_line, task_line};
 
-// A line's number from the list, and its length: 0 where it is refused.
-#[derive(Clone, Copy)]
-pub struct Line {
-    pub number: u8,
-    pub len: usize,
-}
-
-impl Line {
-    // The least size of a line's buffer, in bytes.
-    pub const LIMIT: usize = 96;
-}
+// The least size of a line's buffer, in bytes.
+pub const LIMIT: usize = 96;

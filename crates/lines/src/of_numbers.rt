@@ -1,138 +1,91 @@
 // The lines that need no state.
-ghost use Rattle.std.specs.Prelude.{◌≡◌, ◌+◌, ◌*◌, ◌≤◌, min, length};
-ghost use Rattle.numbers.specs.Limits.{most_processors};
-ghost use Rattle.protocol.specs.Records.{total_count};
-ghost use Rattle.lines.specs.Buffers.{Put, places_text, place_width, total_width, counts_line, places_line, totals_line, block_line, setup_line};
-ghost use Rattle.lines.specs.Texts.{place_text, totals_text};
+#![tactic(auto, using(crate::proofs::Lengths::widths, crate::proofs::Lines::line_refused))]
 
-use crate::Line;
-use crate::writing::{put_number, put_numbered, put_task, put_text};
+ghost use Rattle.std.specs.Prelude.{◌≡◌, ◌≤◌, length, IfOk};
+ghost use Rattle.numbers.specs.Answers.{answer_of};
+ghost use Rattle.numbers.specs.Rows.{first_of};
+ghost use Rattle.lines.specs.Buffers.{line_limit, narrow, counts_line, places_line, totals_line, block_line, setup_line};
+ghost use Rattle.lines.specs.Lines.{line_from};
+
+use crate::LIMIT;
+use crate::writing::Pen;
 use numbers::Refusal;
 use processors::Processors;
 use protocol::Task;
 
-// What is returned for a refused line.
-pub fn refused(number: u8) -> Line
-    ensures { result ≡ record { number = number; len = 0 } }
+// Refuses a buffer that is too short for a line.
+fn judge_room(out: &[u8]) -> Result<(), Refusal>
+    ensures refused { answer_of result ≡ first_of (narrow out.now) }
+    ensures room { IfOk result (λ _. line_limit ≤ length out.now) }
 {
-    Line { number, len: 0 }
+    if out.len() < LIMIT {
+        return Err(Refusal::BufferShort);
+    }
+    Ok(())
 }
 
 // The first line: the counts of processors and tasks, and the start.
-pub fn counts_line(m: usize, n: usize, start: u32, out: &mut [u8]) -> Line
-    ensures { (result, out.new) ≡ counts_line out.old m n start }
+pub fn counts_line(m: usize, n: usize, start: u32, out: &mut [u8]) -> Result<usize, Refusal>
+    ensures { (line_from result, out.new) ≡ counts_line out.old m n start }
 {
-    if out.len() < Line::LIMIT {
-        return refused(Refusal::BUFFER_SHORT);
-    }
-    let counted = put_numbered(out, 0, b"processors ", m as u64);
-    let listed = put_numbered(out, counted, b" tasks ", n as u64);
-    let begun = put_numbered(out, listed, b" start ", start as u64);
-    let len = put_text(out, begun, b"\n");
-    Line { number: 0, len }
+    judge_room(out)?;
+    let mut pen = Pen::new(out);
+    pen.put_numbered(b"processors ", m as u64);
+    pen.put_numbered(b" tasks ", n as u64);
+    pen.put_numbered(b" start ", u64::from(start));
+    pen.put_text(b"\n");
+    Ok(pen.at)
 }
 
-// Writes linked/running task of one processor; returns the next write position.
-fn put_place(out: &mut [u8], at: usize, linked: u8, running: u8) -> usize
-    requires { at + length (place_text linked running) ≤ length out.old }
-    ensures { Put out.old at (place_text linked running) result out.new }
+// An event's line, from its number and its snapshot. No more processors are shown than a state can have.
+pub fn places_line(
+    number: u64,
+    count: usize,
+    snapshot: &[u8],
+    out: &mut [u8],
+) -> Result<usize, Refusal>
+    ensures { (line_from result, out.new) ≡ places_line out.old number count snapshot.now }
 {
-    let spaced = put_text(out, at, b" ");
-    let named = put_task(out, spaced, linked);
-    let parted = put_text(out, named, b"/");
-    put_task(out, parted, running)
-}
-
-// Writes linked/running task of the first `count` processors; returns the next write position.
-fn put_places(out: &mut [u8], from: usize, snapshot: &[u8], count: usize) -> usize
-    requires { (count ≤ most_processors) × (from + place_width * count ≤ length out.old) }
-    ensures { Put out.old from (places_text snapshot.now count) result out.new
-        × (result ≤ from + place_width * count) }
-{
-    let mut at = from;
-    for k in 0..count {
-        at = put_place(
-            out,
-            at,
-            input::byte_at(snapshot, 2 * k + 1),
-            input::byte_at(snapshot, 2 * k + 2),
-        );
-    }
-    at
-}
-
-// How many processors are shown: no more than a state can have.
-fn shown(count: usize) -> usize
-    ensures { result ≡ min count most_processors }
-{
-    if count < Processors::LIMIT {
-        count
-    } else {
-        Processors::LIMIT
-    }
-}
-
-// An event's line, from its number and its snapshot.
-pub fn places_line(number: u64, count: usize, snapshot: &[u8], out: &mut [u8]) -> Line
-    ensures { (result, out.new) ≡ places_line out.old number count snapshot.now }
-{
-    if out.len() < Line::LIMIT {
-        return refused(Refusal::BUFFER_SHORT);
-    }
-    let numbered = put_number(out, 0, number);
-    let answered = put_numbered(out, numbered, b" ", input::byte_at(snapshot, 0) as u64);
-    let placed = put_places(out, answered, snapshot, shown(count));
-    let len = put_text(out, placed, b"\n");
-    Line { number: 0, len }
-}
-
-// Writes the totals of a task; returns the next write position.
-fn put_totals(out: &mut [u8], from: usize, totals: [u32; Task::TOTALS]) -> usize
-    requires { from + total_width * total_count ≤ length out.old }
-    ensures { Put out.old from (totals_text totals total_count) result out.new
-        × (result ≤ from + total_width * total_count) }
-{
-    let mut at = from;
-    for i in 0..Task::TOTALS {
-        at = put_numbered(out, at, b" ", totals[i] as u64);
-    }
-    at
+    judge_room(out)?;
+    let mut pen = Pen::new(out);
+    pen.put_number(number);
+    pen.put_numbered(b" ", u64::from(input::byte_at(snapshot, 0)));
+    pen.put_places(snapshot, count.min(Processors::LIMIT));
+    pen.put_text(b"\n");
+    Ok(pen.at)
 }
 
 // A task's line.
-pub fn totals_line(t: u8, totals: [u32; Task::TOTALS], out: &mut [u8]) -> Line
-    ensures { (result, out.new) ≡ totals_line out.old t totals }
+pub fn totals_line(t: u8, totals: [u32; Task::TOTALS], out: &mut [u8]) -> Result<usize, Refusal>
+    ensures { (line_from result, out.new) ≡ totals_line out.old t totals }
 {
-    if out.len() < Line::LIMIT {
-        return refused(Refusal::BUFFER_SHORT);
-    }
-    let named = put_numbered(out, 0, b"task ", t as u64);
-    let listed = put_totals(out, named, totals);
-    let len = put_text(out, listed, b"\n");
-    Line { number: 0, len }
+    judge_room(out)?;
+    let mut pen = Pen::new(out);
+    pen.put_numbered(b"task ", u64::from(t));
+    pen.put_totals(totals);
+    pen.put_text(b"\n");
+    Ok(pen.at)
 }
 
 // A refused block's line.
-pub fn block_line(index: u64, refusal: u8, out: &mut [u8]) -> Line
-    ensures { (result, out.new) ≡ block_line out.old index refusal }
+pub fn block_line(index: u64, refusal: u8, out: &mut [u8]) -> Result<usize, Refusal>
+    ensures { (line_from result, out.new) ≡ block_line out.old index refusal }
 {
-    if out.len() < Line::LIMIT {
-        return refused(Refusal::BUFFER_SHORT);
-    }
-    let named = put_numbered(out, 0, b"block ", index);
-    let answered = put_numbered(out, named, b" refused ", refusal as u64);
-    let len = put_text(out, answered, b"\n");
-    Line { number: 0, len }
+    judge_room(out)?;
+    let mut pen = Pen::new(out);
+    pen.put_numbered(b"block ", index);
+    pen.put_numbered(b" refused ", u64::from(refusal));
+    pen.put_text(b"\n");
+    Ok(pen.at)
 }
 
 // A refused set-up's line.
-pub fn setup_line(refusal: u8, out: &mut [u8]) -> Line
-    ensures { (result, out.new) ≡ setup_line out.old refusal }
+pub fn setup_line(refusal: u8, out: &mut [u8]) -> Result<usize, Refusal>
+    ensures { (line_from result, out.new) ≡ setup_line out.old refusal }
 {
-    if out.len() < Line::LIMIT {
-        return refused(Refusal::BUFFER_SHORT);
-    }
-    let answered = put_numbered(out, 0, b"setup refused ", refusal as u64);
-    let len = put_text(out, answered, b"\n");
-    Line { number: 0, len }
+    judge_room(out)?;
+    let mut pen = Pen::new(out);
+    pen.put_numbered(b"setup refused ", u64::from(refusal));
+    pen.put_text(b"\n");
+    Ok(pen.at)
 }

@@ -1,9 +1,13 @@
 -- What the code of an accepted event needs holds of a sound state that accepts it. Assumes nothing.
-use Rattle.std.proofs.Common.{◌≡◌, ℕ, ◌+◌, ◌<◌, ◌≤◌, Bool, true, false, not, ◌≢◌, refl, ap, arith, eq-eqb, ne_eqb}
+use Rattle.std.proofs.Common.{◌≡◌, ℕ, ◌+◌, ◌<◌, ◌≤◌, Bool, true, false, not, ◌≢◌, refl, sym, ap, ◌∙◌, arith, eq-eqb, ne_eqb}
 use native.Mathlib.Decide.{ℕ_discrete, dec_lt}
+use Rattle.std.proofs.lemmas.Bool.{eqb-false}
 use Rattle.search.proofs.Tests.{tests}
 use Rattle.numbers.specs.Numbered.{NoneApplies}
 use Rattle.numbers.proofs.Refusals.{none_iff}
+use Rattle.numbers.specs.Answers.{number_of}
+use Rattle.numbers.specs.declared.answers.Refusal.{Refusal}
+use Rattle.numbers.proofs.Answered.{refusal_counts}
 use Rattle.numbers.specs.Limits.{most_tasks, most_resources, most_requests}
 use Rattle.setups.specs.Naming.{group_of}
 use Rattle.input.specs.Kinds.{request as asking, completion, passing, fields_of}
@@ -125,3 +129,11 @@ module _ (s : State) (e : Event) (Q : Sound s) (ok : judge s e ≡ 0) where
         asks = λ k. record { inside = inside; placed = g_in (omega arith); room = (asks_of s e Q ok k).room };
         completes = λ k. record { inside = inside; placed = g_in (omega arith); some = (let E = ends_of s e Q ok k in omega (arith, E.some)); few = ((steady_of s e Q ok).locks.tasks e.task).opened.few; next = can_pass (group_of s.setup e.resource) };
       }
+
+-- an accepted event is answered with 0, whatever the state after it
+pub accepted_reply : (s : State) (e : Event) (after : State) → judge s e ≡ 0 → after ≡ (step s e).state → record { answer = 0; state = after } ≡ step s e
+accepted_reply s e after ok h = rw (h, ← (step_answer s e ∙ ok))
+
+-- a refused event is answered with its refusal, and leaves the state
+pub refused_reply : (s : State) (e : Event) (refusal : Refusal) → number_of refusal ≡ judge s e → record { answer = number_of refusal; state = s } ≡ step s e
+refused_reply s e refusal h = rw h (sym (step_refused s e (λ q. eqb-false _ _ (refusal_counts refusal) (h ∙ q))))

@@ -7,6 +7,8 @@ pub mod Bounded
 pub mod Branching
 pub mod Charging
 pub mod Foremost
+pub mod Holding
+pub mod Judged
 pub mod Keeping
 pub mod Places
 pub mod Runs

@@ -1,5 +1,6 @@
 pub mod Acting
 pub mod Edits
+pub mod Holding
 pub mod Keeping
 pub mod Playing
 pub mod Ranking

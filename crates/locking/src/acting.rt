@@ -6,7 +6,7 @@ ghost use Rattle.locking.specs.Edits.{requesting, completing, editing, handing};
 
 use crate::edits::{arrived, closed, departed, lock_of, opened};
 use input::{Event, Setup};
-use numbers::{Limit, row};
+use numbers::Limit;
 use protocol::{Group, Standing, Task};
 
 // The records of an event's task and group after it, the scheduler's move `turn` that follows, and the task `next`
@@ -33,7 +33,7 @@ impl Edit {
     pub const GIVE_WAY: u8 = 4;
 }
 
-// Task `t` requests `r`: it holds the group at once, or it is enqueued at the end and spins or suspends. Here and
+// Task `t` requests `r`: it holds the group at once, or it is enqueued at the end and spins or suspends. X
 // below `row` is a plain choice between two numbers.
 fn request(kinds: [u8; Setup::RESOURCES], task: Task, group: Group, t: u8, r: u8) -> Edit
     requires { task.depth < most_requests }
@@ -58,7 +58,7 @@ fn request(kinds: [u8; Setup::RESOURCES], task: Task, group: Group, t: u8, r: u8
                 holder: group.holder,
                 queue: longer,
             },
-            turn: row(Edit::STAY, kind == Setup::SHORT, Edit::LEAVE),
+            turn: search::pick(kind == Setup::SHORT, Edit::STAY, Edit::LEAVE),
             next: Limit::NOBODY,
         }
     }
@@ -88,12 +88,12 @@ fn complete(kinds: [u8; Setup::RESOURCES], task: Task, group: Group, r: u8) -> E
                 holder: Limit::NOBODY,
                 queue,
             },
-            turn: row(
-                Edit::BECOME_PREEMPTABLE,
+            turn: search::pick(
                 kind == Setup::SHORT,
+                Edit::BECOME_PREEMPTABLE,
                 Edit::GIVE_WAY,
             ),
-            next: row(Limit::NOBODY, queue.len == 0, queue.first()),
+            next: search::pick(queue.len == 0, Limit::NOBODY, queue.first()),
         }
     }
 }
@@ -158,7 +158,7 @@ pub fn hand_over(task: Task, group: Group, turn: u8, next: u8) -> Edit
             holder: next,
             queue: rest,
         },
-        turn: row(Edit::ARRIVE, turn == Edit::GIVE_WAY, Edit::STAY),
+        turn: search::pick(turn == Edit::GIVE_WAY, Edit::ARRIVE, Edit::STAY),
         next,
     }
 }

@@ -10,6 +10,7 @@ mod judging;
 mod moving;
 mod playing;
 mod ranking;
+mod session;
 mod unplacing;
 
 pub use events::{judge_event, step};

@@ -10,7 +10,7 @@ ghost use Rattle.locking.specs.Keeping.{kept_in, kept_with};
 use crate::acting::Edit;
 use input::Setup;
 use numbers::Limit;
-use processors::Processors;
+use processors::{Jobs, Processors};
 use protocol::{Group, Task};
 
 // What moves and charges look up of each task: its own rank, its mode and its standing's number. It is kept up to
@@ -72,12 +72,13 @@ pub fn moved(
     let own = kept.own;
     let modes = kept.modes;
     let ranks = priorities::ranks_of(own, kinds, setup.resources, groups);
+    let jobs = Jobs { ranks, modes };
     if turn == Edit::ARRIVE {
-        scheduler::arrive(p, &ranks, &modes, t, Limit::NOBODY)
+        scheduler::arrive(p, &jobs, t, Limit::NOBODY)
     } else if turn == Edit::LEAVE {
-        scheduler::leave(p, &ranks, &modes, setup.tasks, t)
+        scheduler::leave(p, &jobs, setup.tasks, t)
     } else if turn == Edit::GIVE_WAY {
-        scheduler::give_way(p, &ranks, &modes, setup.tasks, t)
+        scheduler::give_way(p, &jobs, setup.tasks, t)
     } else {
         p
     }

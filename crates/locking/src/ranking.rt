@@ -1,7 +1,7 @@
 // How many tasks outrank each suspended one: are pending, suspended or not, with a lower own rank. A suspended job is
 // directly blocked while fewer do than there are processors. It is counted when a job suspends, and corrected when
 // another arrives or finishes, so that no event has to count for every suspended job.
-ghost use Rattle.std.specs.Prelude.{◌≡◌, ◌+◌, ◌-◌, ◌<◌, ◌≤◌, true, length, slice_set, if◌then◌else◌};
+ghost use Rattle.std.specs.Prelude.{◌≡◌, ◌+◌, ◌-◌, ◌<◌, ◌≤◌, true, false, length, slice_set, if◌then◌else◌};
 ghost use Rattle.numbers.specs.Limits.{most_tasks};
 ghost use Rattle.protocol.specs.Words.{standing_no};
 ghost use Rattle.priorities.specs.Bounds.{rank_by};
@@ -86,7 +86,8 @@ fn correct(
     }
 }
 
-// Brings `ahead` up to date, where task `t` had the record `task`.
+// Brings `ahead` up to date, where task `t` had the record `task`, if `again` says that its job arrived, finished or
+// suspended.
 pub fn rank_again<'a>(
     ahead: &mut [u8],
     stands: &'a [u8; Setup::TASKS],
@@ -94,12 +95,18 @@ pub fn rank_again<'a>(
     count: usize,
     task: Task,
     t: u8,
+    again: bool,
 )
-    requires { (count ≤ most_tasks) × (t < count) × (length stands.now ≡ most_tasks) × (length own.now ≡ most_tasks)
+    requires { (again ≡ false → Ranked stands.now own.now count ahead.old)
+        × (again ≡ true → (count ≤ most_tasks) × (t < count)
+        × (length stands.now ≡ most_tasks) × (length own.now ≡ most_tasks)
         × Ranked (slice_set stands.now t (standing_no task.standing)) (slice_set own.now t (rank_by task.deadline t))
-        count ahead.old }
+        count ahead.old) }
     ensures { Ranked stands.now own.now count ahead.new }
 {
+    if !again {
+        return;
+    }
     let i = t as usize;
     let standing = task.standing;
     let was = states::stand_of(standing);

@@ -6,6 +6,7 @@ ghost use Rattle.input.specs.Kinds.{request as asking, completion};
 ghost use Rattle.setups.specs.Naming.{group_of};
 ghost use Rattle.protocol.specs.Refusals.{step_of, judge};
 ghost use Rattle.protocol.specs.Events.{charged as charged_rule};
+ghost use Rattle.protocol.specs.Replies.{reply_from};
 ghost use Rattle.protocol.specs.Edited.{edited as edited_rule, unplaced as unplaced_rule};
 ghost use Rattle.locking.specs.Acting.{CanAct};
 ghost use Rattle.locking.specs.Edits.{put as put_rule};
@@ -18,8 +19,8 @@ use crate::moving::kept_of;
 use crate::playing::place_in;
 use crate::ranking::all_ahead;
 use input::Event;
-use numbers::Limit;
-use protocol::{Group, Reply, State, Task};
+use numbers::{Limit, Refusal};
+use protocol::{Group, State, Task};
 
 // The state with the clock moved on to the accepted event `e`, and its ticks charged to each pending task.
 fn charged(state: State, e: Event) -> State
@@ -86,20 +87,13 @@ fn edit_state(state: State, g: usize, e: Event) -> State
     put(next, edit.next, g, heir, passed)
 }
 
-// The answer to an event, and the state after it but for links and placements, which are as they were.
-pub fn unplaced(state: State, e: Event) -> Reply
-    ensures { result ≡ unplaced_rule state e }
+// The state after an event but for links and placements, which are as they were; or the event's refusal.
+pub fn unplaced(state: State, e: Event) -> Result<State, Refusal>
+    ensures { reply_from state result ≡ unplaced_rule state e }
 {
-    let answer = judge_event(state, e);
-    if answer != 0 {
-        return Reply { answer, state };
-    }
+    judge_event(state, e)?;
     let later = charged(state, e);
     let setup = state.setup;
     let naming = setups::names_of(setup);
-    let next = edit_state(later, place_in(naming, e.resource), e);
-    Reply {
-        answer: 0,
-        state: next,
-    }
+    Ok(edit_state(later, place_in(naming, e.resource), e))
 }

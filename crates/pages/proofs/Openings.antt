@@ -15,9 +15,8 @@ use Rattle.protocol.specs.Events.{begin, fresh, run}
 use Rattle.input.specs.Words.{no_setup}
 use Rattle.protocol.specs.declared.State.{State}
 use Rattle.blocks.specs.Sizes.{most_events, payload_at}
-use Rattle.blocks.specs.Verdicts.{used_size, is_first, block_rows, verdict, used_part}
+use Rattle.blocks.specs.Verdicts.{Used, Refused, used_size, is_first, block_rows, verdict, used_part}
 use Rattle.blocks.specs.OneByte.{AreBytes}
-use Rattle.blocks.specs.declared.Verdict.TheVariants.{Used, Refused}
 use Rattle.blocks.proofs.Numbers.{judge_none}
 use Rattle.blocks.proofs.Limits.{used_index, used_events}
 use Rattle.lines.specs.Texts.{first_text, block_text, setup_text}

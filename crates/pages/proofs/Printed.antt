@@ -1,5 +1,5 @@
 -- A page out of the text that was put into its buffer: of any text, of one line, and of a line for each event. Assumes nothing.
-use Rattle.std.proofs.Common.{◌≡◌, ℕ, ◌+◌, ◌*◌, ◌/◌, ◌%◌, ◌<◌, ◌≤◌, min, false, List, length, take, drop, ap, ◌∙◌, arith, le-ltb, lt-ltb}
+use Rattle.std.proofs.Common.{◌≡◌, ℕ, ◌+◌, ◌*◌, ◌/◌, ◌%◌, ◌<◌, ◌≤◌, min, false, List, ◌++◌, length, length-append, take, drop, ap, ◌∙◌, arith, le-ltb, lt-ltb, Result, take-append-drop}
 use native.Mathlib.Decide.{dec_lt}
 use Rattle.search.proofs.Determined.{determined}
 use Rattle.input.specs.Layout.{event_count}
@@ -7,22 +7,26 @@ use Rattle.protocol.specs.declared.State.{State}
 use Rattle.states.specs.Writing.{snapshot_size}
 use Rattle.locking.specs.declared.Played.{Played}
 use Rattle.locking.specs.Playing.{playable, played_to, written_to, played}
+use Rattle.states.specs.Writing.{written}
 use Rattle.states.proofs.Writing.{written_long}
 use Rattle.blocks.specs.Sizes.{most_events}
 use Rattle.lines.specs.Buffers.{Put, line_limit, line_into, narrow}
-use Rattle.lines.specs.declared.Line.{Line}
+use Rattle.lines.specs.Lines.{line_from}
+use Rattle.std.specs.Result.{result_unwrap_or}
+use Rattle.numbers.specs.declared.answers.Refusal.{Refusal}
+use Rattle.pages.specs.declared.Page.{Page as PageGiven}
 use Rattle.pages.specs.Pages.{wide, events_text, event_page, page_limit, paged, page_into, PageNumbers}
 use Rattle.pages.specs.declared.Session.{Session}
-use Rattle.pages.specs.declared.Page.{Page}
-use Rattle.pages.proofs.Parts.{line_given}
+use Rattle.pages.specs.Pages.{Page}
+use Rattle.pages.proofs.Parts.{line_given, written_front}
 use Rattle.pages.proofs.Records.{lines_back}
 
 -- what each page's function ensures: the page and the buffer after it, with its text inside the buffer
-abbrev pub Printed : Session × List ℕ → List ℕ → Page → List ℕ → Type 0
-Printed told out page after = ((page, after) ≡ paged told out) × (page.len ≤ length after)
+abbrev pub Printed : Session × List ℕ → List ℕ → PageGiven → List ℕ → Type 0
+Printed told out page after = ((record { session = page.session; number = 0; len = page.len }, after) ≡ paged told out) × (page.len ≤ length after)
 
-module _ {x : Session} (text out : List ℕ) {after : List ℕ} {page : Page} where
-  pub page_put : {len : ℕ} → page ≡ record { session = x; number = 0; len = len } → Put out 0 text len after → len ≤ length out → Printed (x, text) out page after
+module _ {x : Session} (text out : List ℕ) {after : List ℕ} {page : PageGiven} where
+  pub page_put : {len : ℕ} → page ≡ record { session = x; len = len } → Put out 0 text len after → len ≤ length out → Printed (x, text) out page after
   unfolding paged
   page_put {len} made p room =
       let e : length text ≡ 0 + length text = omega arith in
@@ -30,11 +34,23 @@ module _ {x : Session} (text out : List ℕ) {after : List ℕ} {page : Page} wh
       (rw (made, p.place, p.bytes, ← e), rw made (omega (arith, long)))
 
   -- with room for a page there is room for a line
-  pub page_line : {line : Line} → page ≡ record { session = x; number = 0; len = line.len } → page_limit ≤ length out → (line, after) ≡ line_into (narrow out) text out
-      → length text ≤ line_limit → Printed (x, text) out page after
-  page_line {line} made room told short =
-      let put = line_given text out (omega arith) told in
+  pub page_line : (r : Result ℕ Refusal) {len : ℕ} → page ≡ record { session = x; len = len } → length out ≡ page_limit → len ≡ result_unwrap_or r 0
+      → (line_from r, after) ≡ line_into (narrow out) text out → length text ≤ line_limit → Printed (x, text) out page after
+  page_line r {len} made room taken told short =
+      let put = line_given r text out (omega arith) taken told in
       page_put made put (omega (arith, put.place))
+
+-- a page into the front of a buffer is one into the whole
+pub page_front : (told : Session × List ℕ) (n : ℕ) (out : List ℕ) {front after : List ℕ} {page : PageGiven} → n ≤ length out → front ≡ take n out
+    → Printed told front page after → Printed told out page (after ++ drop n out)
+unfolding paged
+page_front (x, text) n out {front} {after} {page} room same p =
+    let whole : front ++ drop n out ≡ out = rw same (take-append-drop n out) in
+    let page : page ≡ record { session = x; len = length text } = ap (λ (y : Page × List ℕ). record { session = y.0.session; len = y.0.len }) p.0 in
+    let bytes : after ≡ written front 0 text = ap (λ (y : Page × List ℕ). y.1) p.0 in
+    let long : length after ≡ length front = rw bytes (written_long front 0 text) in
+    let fits : length text ≤ length front = omega (arith, p.1, ap (λ (y : PageGiven). y.len) page) in
+    (rw (page, bytes, written_front front (drop n out) text fits, whole), omega (arith, p.1, length-append after (drop n out)))
 
 -- every event of a block's part is played
 play_all : (s : State) (part out : List ℕ) → event_count part ≤ most_events → snapshot_size * most_events ≤ length out
@@ -50,10 +66,10 @@ play_count s part out few room made = ap (λ (y : Played × List ℕ). y.0.count
 
 -- the lines of what was written of each event, in a buffer with room for all, are a page
 pub page_events : (x : Session) (part buffer out : List ℕ) {done : Played} {filled : List ℕ} {events len : ℕ} {after : List ℕ}
-    → event_count part ≤ most_events → snapshot_size * most_events ≤ length buffer → page_limit ≤ length out
+    → event_count part ≤ most_events → snapshot_size * most_events ≤ length buffer → length out ≡ page_limit
     → (done, filled) ≡ played x.state part buffer → events ≡ (x.events + done.count) % wide
     → Put out 0 (events_text (λ n. take snapshot_size (drop (snapshot_size * n) filled)) x.state.setup.processors x.events done.count) len after → len ≤ line_limit * done.count
-    → Printed (event_page x part) out (record { session = record { index = x.index + 1; events = events; over = false; state = done.state; refused = false }; number = 0; len = len }) after
+    → Printed (event_page x part) out (record { session = record { index = x.index + 1; events = events; over = false; state = done.state; refused = false }; len = len }) after
 page_events x part buffer out {done} {filled} {events} {len} {after} few fits room made numbered put short =
     let counted = play_count x.state part buffer few fits made in
     let all = made ∙ play_all x.state part buffer few fits in

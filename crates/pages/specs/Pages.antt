@@ -1,6 +1,6 @@
 -- RULES.md, 'Printing': the page of lines that is printed of each block, and the last page, at the input's end. A
 -- page is given as the session after it and its text.
-use Rattle.std.specs.Prelude.{◌≡◌, ℕ, suc, ◌+◌, ◌*◌, ◌%◌, ◌<◌, ◌≤◌, min, Bool, true, false, ◌↔◌, List, [], length, take, drop, nat_lt, if◌then◌else◌}
+use Rattle.std.specs.Prelude.{◌≡◌, ℕ, suc, ◌+◌, ◌*◌, ◌%◌, ◌<◌, ◌≤◌, min, Bool, true, false, ◌↔◌, List, [], length, take, drop, nat_lt, if◌then◌else◌, Result, Ok, Err}
 use Rattle.search.specs.Words.{◌is◌}
 use Rattle.numbers.specs.Refusals.{size_wrong, buffer_short}
 use Rattle.numbers.specs.Limits.{most_tasks}
@@ -11,15 +11,15 @@ use Rattle.protocol.specs.Replies.{Reply}
 use Rattle.states.specs.Writing.{snapshot_size, written}
 use Rattle.locking.specs.Playing.{played_to, snapshot_at}
 use Rattle.blocks.specs.Sizes.{most_events}
-use Rattle.blocks.specs.Verdicts.{verdict, used_part}
-use Rattle.blocks.specs.declared.Verdict.{Verdict}
-use Rattle.blocks.specs.declared.Verdict.TheVariants.{Used, Refused}
+use Rattle.blocks.specs.Verdicts.{Verdict, Used, Refused, verdict, used_part}
 use Rattle.search.specs.Texts.{each_text}
 use Rattle.lines.specs.Texts.{first_text, block_text, setup_text}
 use Rattle.lines.specs.Buffers.{line_limit, event_text}
 use Rattle.pages.specs.Files.{tasks_text}
 use Rattle.pages.specs.declared.Session.{Session}
-use Rattle.pages.specs.declared.Page.{Page}
+use Rattle.pages.specs.declared.Page.{Page as PageGiven}
+use Rattle.numbers.specs.Answers.{number_of}
+use Rattle.numbers.specs.declared.answers.Refusal.{Refusal as Reason}
 
 -- how many numbers 64 bits hold
 abbrev pub wide : ℕ
@@ -91,6 +91,17 @@ module _ (x : Session) where
 -- the least size of a page's buffer, in bytes: a line for each event of a block
 abbrev pub page_limit : ℕ
 page_limit = most_events * line_limit
+
+-- a page: the session after it, its number from the list, and the length of its text
+pub record Page : Type 0 where
+  pub session : Session
+  pub number : ℕ
+  pub len : ℕ
+
+-- what the code returns of a page in a session: a page, or why there is none, which leaves the session as it was
+abbrev pub page_from : Session → Result PageGiven Reason → Page
+page_from x (Ok page) = record { session = page.session; number = 0; len = page.len }
+page_from x (Err refusal) = record { session = x; number = number_of refusal; len = 0 }
 
 -- a page written into a buffer
 unfoldable pub paged : Session × List ℕ → List ℕ → Page × List ℕ

@@ -1,4 +1,4 @@
-// Several lines, one after another, into a buffer.
+// Several lines, one after another, into a buffer. Each line has room, so none is refused.
 ghost use Rattle.std.specs.Prelude.{◌≡◌, ◌+◌, ◌*◌, ◌≤◌, min, length};
 ghost use Rattle.numbers.specs.Limits.{most_tasks};
 ghost use Rattle.states.specs.Writing.{snapshot_size};
@@ -8,7 +8,7 @@ ghost use Rattle.pages.specs.Files.{tasks_text};
 ghost use Rattle.pages.specs.Pages.{snapshot_in, events_text};
 
 use input::Setup;
-use protocol::{Reply, State, Task};
+use protocol::{State, Task};
 
 // Writes an event's line from `at` on; returns the next write position.
 fn put_event(out: &mut [u8], at: usize, number: u64, processors: usize, line: &[u8]) -> usize
@@ -16,8 +16,7 @@ fn put_event(out: &mut [u8], at: usize, number: u64, processors: usize, line: &[
     ensures { Put out.old at (event_text number processors line.now) result out.new
         × (result ≤ at + line_limit) }
 {
-    let put = lines::places_line(number, processors, line, &mut out[at..]);
-    at + put.len
+    at + lines::places_line(number, processors, line, &mut out[at..]).unwrap_or(0)
 }
 
 // Writes the lines of `count` events, from their snapshots in `written`, numbered on from `events`; returns their
@@ -49,33 +48,18 @@ fn put_task(out: &mut [u8], at: usize, t: u8, totals: [u32; Task::TOTALS]) -> us
     requires { at + line_limit ≤ length out.old }
     ensures { Put out.old at (task_line_text t totals) result out.new × (result ≤ at + line_limit) }
 {
-    let put = lines::totals_line(t, totals, &mut out[at..]);
-    at + put.len
+    at + lines::totals_line(t, totals, &mut out[at..]).unwrap_or(0)
 }
 
-// How many tasks are listed: no more than a state can have.
-fn listed(tasks: usize) -> usize
-    ensures { result ≡ min tasks most_tasks }
-{
-    if tasks < Setup::TASKS {
-        tasks
-    } else {
-        Setup::TASKS
-    }
-}
-
-// Writes each task's line; returns their length.
+// Writes each task's line, of no more tasks than a state can have; returns their length.
 pub fn put_tasks(out: &mut [u8], state: State) -> usize
     requires { line_limit * most_tasks ≤ length out.old }
     ensures { Put out.old 0
         (tasks_text state (min state.setup.tasks most_tasks)) result out.new
         × (result ≤ line_limit * most_tasks) }
 {
-    let setup = state.setup;
-    let count = listed(setup.tasks);
     let mut at = 0;
-    for i in 0..count {
-        let t = i as u8;
+    for t in 0..state.setup.tasks.min(Setup::TASKS) as u8 {
         at = put_task(out, at, t, states::totals_of(state, t));
     }
     at

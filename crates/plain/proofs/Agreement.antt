@@ -11,10 +11,9 @@ use Rattle.protocol.specs.Events.{begin, run_by, step, run, reply_at}
 use Rattle.protocol.specs.declared.State.{State}
 use Rattle.states.specs.Writing.{snapshot_of}
 use Rattle.plain.specs.Orders.{order_of, ordered, is_ordered}
-use Rattle.plain.specs.Engine.{plain_reply, plain_begin, plain_step, plain_run}
+use Rattle.plain.specs.Engine.{PlainReply, plain_reply, plain_begin, plain_step, plain_run}
 use Rattle.plain.specs.Agreement.{plain_reply_at, EnginesAlwaysAgree}
 use Rattle.plain.specs.declared.Plain.{Plain}
-use Rattle.plain.specs.declared.PlainReply.{PlainReply}
 use Rattle.plain.proofs.Sorted.{same_self}
 
 pub ordered_step : (s : State) (e : Event) → plain_step (ordered s) e ≡ plain_reply (step s e)

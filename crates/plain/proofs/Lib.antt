@@ -1,5 +1,5 @@
 pub mod Sorted
-pub mod Turns
+pub mod Counts
 pub mod Readings
 pub mod Placing
 pub mod Sessions

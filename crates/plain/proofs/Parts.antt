@@ -4,6 +4,10 @@ use mathlib.Core.Path.{◌≡◌, refl, sym, ap, subst, ◌∙◌}
 use mathlib.Core.List.{List}
 use native.Mathlib.Omega.{arith}
 use lib.ListN.{length}
+use Rattle.std.specs.Prelude.{Result, Ok, Err}
+use Rattle.std.specs.Result.{result_unwrap_or}
+use Rattle.numbers.specs.Answers.{answer_of}
+use Rattle.numbers.specs.declared.answers.Refusal.{Refusal}
 use Rattle.input.specs.Layout.{event_in}
 use Rattle.input.specs.declared.Event.{Event}
 use Rattle.protocol.specs.Events.{step}
@@ -14,12 +18,16 @@ use Rattle.states.proofs.Writing.{put_room}
 use Rattle.locking.specs.Playing.{playable, played_to, written_to, reply_to}
 use Rattle.locking.proofs.Along.{room_along, played_turn, buffer_turn}
 use Rattle.plain.specs.Orders.{order_of, is_ordered}
-use Rattle.plain.specs.Engine.{plain_step}
+use Rattle.plain.specs.Engine.{PlainReply, plain_reply_from, plain_step}
 use Rattle.plain.specs.Reading.{order_in}
 use Rattle.plain.specs.declared.Plain.{Plain}
-use Rattle.plain.specs.declared.PlainReply.{PlainReply}
 use Rattle.plain.proofs.Sorted.{same_self}
 use Rattle.plain.proofs.Sessions.{Short, sound_order, Kept, follows}
+
+-- what is handed on of a step: its answer, and the session after it
+pub handed_on : (x : Plain) (r : Result Plain Refusal) → record { answer = answer_of r; session = result_unwrap_or r x } ≡ plain_reply_from x r
+handed_on x (Ok y) = refl
+handed_on x (Err e) = refl
 
 module _ (s : State) (part lent : List ℕ) where
   -- after i events: the session x, the buffer, and the next write position

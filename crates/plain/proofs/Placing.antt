@@ -156,21 +156,21 @@ module _ (c : Setup) (x : State) (same : x.setup ≡ c) (o : Order) (m : List �
   given u = giving_way_in o (asleep_in m u) p t
 
   completed_inner : holder x (group_of c r) ≡ t → completed_in x o m p t r ≡ p
-  unfolding completed_in holder
+  unfolding holder
   completed_inner h = rw (same, eq-eqb _ _ h)
 
   module _ (left : holder x (group_of c r) ≢ t) where
     completed_short : kind c r ≡ short → completed_in x o m p t r ≡ becoming_preemptable p t
-    unfolding completed_in holder
+    unfolding holder
     completed_short k = rw (same, ne_eqb _ _ left, eq-eqb _ _ k)
 
     module _ (k : kind c r ≢ short) where
       completed_free : holder x (group_of c r) ≡ nobody → completed_in x o m p t r ≡ given nobody
-      unfolding completed_in holder
+      unfolding holder
       completed_free h = rw (same, ne_eqb _ _ left, ne_eqb _ _ k, h)
 
       completed_passed : (u : ℕ) → u ≢ nobody → holder x (group_of c r) ≡ u → completed_in x o m p t r ≡ arriving_in o m (given u) u
-      unfolding completed_in holder
+      unfolding holder
       completed_passed u d h = rw (same, ne_eqb _ _ left, ne_eqb _ _ k, h, ne_eqb _ _ d)
 
 -- ---- a sound state that accepts an event
@@ -214,12 +214,12 @@ module _ (s : State) (e : Event) (Q : Sound s) (ok : judge s e ≡ 0) where
   IsRead x y = Steady c x → x.setup ≡ c → placed_in x (order_of x) p e ≡ y.processors
 
   comes : e.kind ≡ arrival → IsRead (arrive_edit c t s₁) (arrive_event cold c t s₁)
-  unfolding placed_in arrive_event arrives charged
+  unfolding arrive_event arrives charged
   comes k S' same = rw (eq-eqb _ _ k)
       (arrive_at c G _ S' same p (jobs c s₁) P t (arrive_joins c G s₁ S t _ (row11 s e Q ok (omega arith)) ((same_of s e Q ok t).stood ∙ row16 s e Q ok k)))
 
   goes : e.kind ≡ finish → IsRead (finish_edit t s₁) (finish_event c t s₁)
-  unfolding placed_in finish_event leaves charged
+  unfolding finish_event leaves charged
   goes k S' same = rw (ne_eqb e.kind arrival (λ q. omega (arith, k, q)), eq-eqb _ _ k) (leave_at c G _ S' same p Z t)
 
   -- ---- a request
@@ -228,15 +228,14 @@ module _ (s : State) (e : Event) (Q : Sound s) (ok : judge s e ≡ 0) where
     A = asks_of s e Q ok k
 
     asked_is : (x : State) → placed_in x (order_of x) p e ≡ requested_in x (order_of x) (modes_in x) p t
-    unfolding placed_in
     asked_is x = rw (ne_eqb e.kind arrival (λ q. omega (arith, k, q)), ne_eqb e.kind finish (λ q. omega (arith, k, q)), eq-eqb _ _ k)
 
     stays : (x : State) → stand x t ≢ suspended → placed_in x (order_of x) p e ≡ p
-    unfolding requested_in stand
+    unfolding stand
     stays x d = asked_is x ∙ rw (ne_eqb _ _ d)
 
     sleeps : (x : State) → stand x t ≡ suspended → placed_in x (order_of x) p e ≡ leaving_in (order_of x) (modes_in x) p t
-    unfolding requested_in stand
+    unfolding stand
     sleeps x q = asked_is x ∙ rw (eq-eqb _ _ q)
 
     g_in : g < most_resources
@@ -258,7 +257,6 @@ module _ (s : State) (e : Event) (Q : Sound s) (ok : judge s e ≡ 0) where
     f = frees g (closes t s₁)
 
     ended_is : (x : State) → placed_in x (order_of x) p e ≡ completed_in x (order_of x) (modes_in x) p t r
-    unfolding placed_in
     ended_is x = rw (ne_eqb e.kind arrival (λ q. omega (arith, k, q)), ne_eqb e.kind finish (λ q. omega (arith, k, q)), ne_eqb e.kind asking (λ q. omega (arith, k, q)), eq-eqb _ _ k)
 
     newest : (r < c.resources) × (holder s₁ g ≡ t)
@@ -334,7 +332,7 @@ module _ (s : State) (e : Event) (Q : Sound s) (ok : judge s e ≡ 0) where
         (λ none h z. way_passed none h (len s₁ g - 1) (omega arith))
 
   time_passes : e.kind ≡ passing → IsRead s₁ s₁
-  unfolding placed_in charged
+  unfolding charged
   time_passes k S' same = rw (ne_eqb e.kind arrival (λ q. omega (arith, k, q)), ne_eqb e.kind finish (λ q. omega (arith, k, q)), ne_eqb e.kind asking (λ q. omega (arith, k, q)), ne_eqb e.kind completion (λ q. omega (arith, k, q)))
 
   -- the links and placements after the event are those read off the order of the state with all else done

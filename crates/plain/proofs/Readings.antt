@@ -83,7 +83,7 @@ module _ (p : Processors) (j : Jobs) (t : ℕ) where
 -- ---- an order by priority
 module _ (o : Order) (j : Jobs) (S : Sorted o j) (A : Apart j) where
   next_first : (p : Processors) → First (λ i. is_unlinked p j (task_at o i)) 0 o.pending (next_in o j.modes p)
-  unfolding next_in mode_of
+  unfolding mode_of
   next_first p = first_law (λ i. is_unlinked p j (task_at o i)) 0 o.pending
 
   -- a runnable unlinked job has a place, and not before the first that passes
@@ -127,14 +127,12 @@ module _ (o : Order) (j : Jobs) (S : Sorted o j) (A : Apart j) where
       ]
 
   filling_read : (p : Processors) → Sized p → (k : ℕ) → filling_in o j.modes p k ≡ refilling p j k
-  unfolding filling_in
   filling_read p Z k = ⊎_elim
       (λ x. rw (refilling_is p j k, x.1, eq-eqb _ _ x.0))
       (λ x. rw (refilling_is p j k, x.1, ne_eqb (next_in o j.modes p) o.pending (λ e. absurd (omega (arith, x.0, e))), lt-ltb _ _ (S.tasks _ x.0)))
       (next_read p Z)
 
   pub leaving_read : (p : Processors) → Sized p → (t : ℕ) → leaving_in o j.modes p t ≡ leaving p j t
-  unfolding leaving_in
   leaving_read p Z t = rw (leaving_is p j t) (elim (dec_lt (run_of p t) most_processors) [
     | yes l ↦
         rw (lt-ltb _ _ l, ne_eqb (run_of p t) most_processors (λ e. absurd (omega (arith, l, e))), filling_read (place_on p (run_of p t) nobody) (sized_on p (run_of p t) nobody Z) (run_of p t))
@@ -143,7 +141,6 @@ module _ (o : Order) (j : Jobs) (S : Sorted o j) (A : Apart j) where
 
   -- ---- places and priorities
   place_first : (t : ℕ) → First (λ i. task_at o i is t) 0 o.pending (place_in o t)
-  unfolding place_in
   place_first t = first_law (λ i. task_at o i is t) 0 o.pending
 
   -- a runnable job has a place, and stands there first
@@ -172,7 +169,6 @@ module _ (o : Order) (j : Jobs) (S : Sorted o j) (A : Apart j) where
       ]
 
   pub giving_way_read : (p : Processors) → Sized p → (t : ℕ) → Runnable j t → giving_way_in o j.modes p t ≡ giving_way p j t
-  unfolding giving_way_in
   giving_way_read p Z t r =
       let y = has_place t r in
       rw (giving_way_is p j t) (⊎_elim
@@ -242,11 +238,10 @@ module _ (o : Order) (j : Jobs) (S : Sorted o j) (A : Apart j) where
     past t false false = rw (set_out p.linked most_processors t (omega (arith, Z.links)))
 
     displacing_none : (t k : ℕ) → k ≡ most_processors → displacing_in o j.modes p t k ≡ displacing p j t k
-    unfolding displacing_in
     displacing_none t k e = rw (displacing_is p j t k) (subst (λ (x : ℕ). displacing_in o j.modes p t x ≡ (if ltb x most_processors && is_higher j t (link p x) then if can_preempt p j x then place_on p x t else link_on p x t else p)) (sym e) (past t (leb (place_in o (link p most_processors)) (place_in o t)) (can_preempt p (jobs_from [] j.modes) most_processors)))
 
     displacing_one : (t k : ℕ) → Runnable j t → k < p.count → k < most_processors → displacing_in o j.modes p t k ≡ displacing p j t k
-    unfolding displacing_in mode_of
+    unfolding mode_of
     displacing_one t k r l m =
         let y = has_place t r in
         rw (displacing_is p j t k, lt-ltb _ _ m, ← before_is_higher (place_in o t) t (link p k) y.0 y.1 r (linked k l))
@@ -262,7 +257,6 @@ module _ (o : Order) (j : Jobs) (S : Sorted o j) (A : Apart j) where
         (⊎_elim (λ b. displacing_none t _ b) (λ b. displacing_one t _ r (ltb-true _ _ b.1) b.0) (lowest_is p j).one)
 
   pub arriving_read : (p : Processors) (j₀ : Jobs) → Placed p j₀ → (t : ℕ) → Joins j₀ j t → arriving_in o j.modes p t ≡ arriving p j t nobody
-  unfolding arriving_in
   arriving_read p j₀ P t J = rw (arriving_is p j t) (elim (dec_lt (lowest_free p) most_processors) [
     | yes l ↦ rw (lt-ltb _ _ l)
     | no l ↦

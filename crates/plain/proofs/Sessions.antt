@@ -30,7 +30,7 @@ use Rattle.protocol.specs.declared.Task.{Task}
 use Rattle.protocol.specs.declared.State.{State}
 use Rattle.protocol.specs.Replies.{Reply}
 use Rattle.protocol.proofs.Sound.Statements.{Sound}
-use Rattle.protocol.proofs.Sound.Reflect.{Shaped, sound_of_test}
+use Rattle.protocol.proofs.Sound.Reflect.{Shaped, sound_of_test, test_of_sound}
 use Rattle.protocol.proofs.Sound.Begin.{accepted_grouped}
 use Rattle.protocol.proofs.Edits.Equations.{with_jobs}
 use Rattle.protocol.proofs.Events.Edited.{step_does}
@@ -39,12 +39,11 @@ use Rattle.priorities.specs.Bounds.{is_bounded}
 use Rattle.priorities.proofs.Ruled.{jobs_ruled}
 use Rattle.locking.proofs.Bounded.{within_bounds, times_bounded}
 use Rattle.locking.proofs.Accepted.{unsound_judged, replied_answer, step_refused}
-use Rattle.plain.specs.Orders.{order_from, order_of, same_order, ordered, is_ordered}
-use Rattle.plain.specs.Engine.{plain_reply, plain_begin, plain_step}
+use Rattle.plain.specs.Orders.{order_from, order_of, ordered, is_ordered}
+use Rattle.plain.specs.Engine.{PlainReply, plain_reply, plain_step}
 use Rattle.plain.specs.Reading.{order_in, placed_in}
 use Rattle.plain.specs.declared.Order.{Order}
 use Rattle.plain.specs.declared.Plain.{Plain}
-use Rattle.plain.specs.declared.PlainReply.{PlainReply}
 use Rattle.plain.proofs.Sorted.{order_long, same_is, same_self}
 use Rattle.plain.proofs.Placing.{read_off}
 
@@ -73,82 +72,74 @@ unfolding fresh
 fresh_order c few = order_ruled (fresh c) (length-replicate most_tasks no_task)
     (within_bounds (fresh c) few (λ t _. omega (arith, ap (λ (x : Task). x.deadline) (replicate_at most_tasks t no_task))))
 
-pub begins : (c : Setup) → record { answer = (begin c).answer; session = record { state = (begin c).state; order = order_in (begin c).state } } ≡ plain_begin c
-unfolding plain_begin begin cleared
-begins c = ap (λ (o : Order). record { answer = (begin c).answer; session = record { state = (begin c).state; order = o } })
-    (elim (ℕ_discrete (setup_refusal c) 0) [
-      | yes q ↦ rw (eq-eqb _ _ q) (fresh_order (cleared c) (accepted_grouped c q).few_resources)
-      | no q ↦ rw (ne_eqb _ _ q) (fresh_order no_setup (omega arith))
-    ])
+pub begun_order : (c : Setup) → order_in (begin c).state ≡ order_of (begin c).state
+unfolding begin cleared
+begun_order c = elim (ℕ_discrete (setup_refusal c) 0) [
+  | yes q ↦ rw (eq-eqb _ _ q) (fresh_order (cleared c) (accepted_grouped c q).few_resources)
+  | no q ↦ rw (ne_eqb _ _ q) (fresh_order no_setup (omega arith))
+]
+
+-- an event is stepped by the rules where the session is in the order of its state
+stepped : (x : Plain) (e : Event) (b : Bool) → is_ordered x ≡ b → plain_step x e ≡ (if b then plain_reply (step x.state e) else record { answer = not_sound; session = x })
+unfolding plain_step
+stepped x e b q = rw q
 
 -- ---- a session x, with the lengths that its type gives
 module _ (x : Plain) (e : Event) (long : length x.order.tasks ≡ most_tasks) (Z : Shaped x.state) (short : Short x.state.setup) where
   abbrev s : State
   s = x.state
 
-  -- the answer that the code gives
-  abbrev given : ℕ
-  given = if same_order x.order (order_in s) then (unplaced s e).answer else not_sound
-
   in_order : is_ordered x ≡ true → ordered s ≡ x
   unfolding is_ordered order_of
   in_order h = ap (λ (o : Order). record { state = s; order = o }) (sym (same_is x.order (order_of s) long (order_long _ _) h))
 
-  sound_is : sound s ≡ true → Sound s
-  sound_is = sound_of_test s Z
-
-  -- the answer of the rules, if the session is in order
-  unplaced_answer : (unplaced s e).answer ≡ judge s e
-  unfolding unplaced
-  unplaced_answer = replied_answer s e _
+  -- a refused event leaves a session that is in order as it was
+  refused_step : judge s e ≢ 0 → is_ordered x ≡ true → plain_step x e ≡ record { answer = judge s e; session = x }
+  refused_step d q = stepped x e true q ∙ ap plain_reply (step_refused s e d) ∙ rw (in_order q)
 
   -- a session that is not sound
   unsound_step : sound s ≡ false → plain_step x e ≡ record { answer = not_sound; session = x }
-  unfolding plain_step
   unsound_step h = go (is_ordered x) refl
     where
       j : judge s e ≡ 9
       j = unsound_judged s e h
 
-      go : (b : Bool) → is_ordered x ≡ b → (if b then plain_reply (step s e) else record { answer = not_sound; session = x }) ≡ record { answer = not_sound; session = x }
-      go true q = ap plain_reply (step_refused s e (λ z. omega (arith, z, j))) ∙ rw (j, in_order q)
-      go false q = refl
+      go : (b : Bool) → is_ordered x ≡ b → plain_step x e ≡ record { answer = not_sound; session = x }
+      go true q = rw (← j) (refused_step (λ z. omega (arith, z, j)) q)
+      go false q = stepped x e false q
 
-  given_unsound : sound s ≡ false → given ≡ not_sound
-  given_unsound h = go (same_order x.order (order_in s))
+  sound_or_not : (P : Type 0) → (sound s ≡ true → P) → (sound s ≡ false → P) → P
+  sound_or_not P is isn't = go (sound s) refl
     where
-      go : (b : Bool) → (if b then (unplaced s e).answer else not_sound) ≡ not_sound
-      go true = unplaced_answer ∙ unsound_judged s e h
-      go false = refl
+      go : (b : Bool) → sound s ≡ b → P
+      go true h = is h
+      go false h = isn't h
 
-  -- a sound one
-  module _ (known : sound s ≡ true) where
-    given_is : (b : Bool) → is_ordered x ≡ b → given ≡ (if b then judge s e else not_sound)
+  -- ---- what the code returns: the order is not that which it computes
+  pub disordered : x.order ≢ order_in s → record { answer = not_sound; session = x } ≡ plain_step x e
+  unfolding is_ordered order_of
+  disordered d = sound_or_not _ (λ h. go h (is_ordered x) refl) (λ h. sym (unsound_step h))
+    where
+      go : sound s ≡ true → (b : Bool) → is_ordered x ≡ b → record { answer = not_sound; session = x } ≡ plain_step x e
+      go h true q = absurd (d (same_is x.order (order_of s) long (order_long _ _) q ∙ sym (sound_order s Z short h)))
+      go h false q = sym (stepped x e false q)
+
+  -- it is
+  module _ (known : x.order ≡ order_in s) where
+    is_in_order : sound s ≡ true → is_ordered x ≡ true
     unfolding is_ordered
-    given_is b q = rw (sound_order s Z short known, q, unplaced_answer)
+    is_in_order h = rw (known, sound_order s Z short h) (same_self (order_of s))
 
-    sound_refused : given ≢ 0 → plain_step x e ≡ record { answer = given; session = x }
-    unfolding plain_step
-    sound_refused d = go (is_ordered x) refl
-      where
-        go : (b : Bool) → is_ordered x ≡ b → plain_step x e ≡ record { answer = given; session = x }
-        go true q =
-            let j = given_is true q in
-            rw q (ap plain_reply (step_refused s e (λ z. d (j ∙ z))) ∙ rw (in_order q, j))
-        go false q = rw (q, given_is false q)
+    pub step_refuses : (answer : ℕ) → record { answer = answer; state = s } ≡ unplaced s e → answer ≢ 0 → record { answer = answer; session = x } ≡ plain_step x e
+    unfolding unplaced
+    step_refuses answer q d =
+        let a : answer ≡ judge s e = ap (λ (r : Reply). r.answer) q ∙ replied_answer s e _ in
+        rw a (sound_or_not _
+        (λ h. sym (refused_step (λ z. d (a ∙ z)) (is_in_order h)))
+        (λ h. rw (unsound_judged s e h) (sym (unsound_step h))))
 
-    module _ (ok : given ≡ 0) where
-      is_in_order : is_ordered x ≡ true
-      is_in_order = go (is_ordered x) refl
-        where
-          go : (b : Bool) → is_ordered x ≡ b → is_ordered x ≡ true
-          go true q = q
-          go false q = absurd (omega (arith, ok, given_is false q))
-
-      accepts : judge s e ≡ 0
-      accepts = sym (given_is true is_in_order) ∙ ok
-
-      -- the state with all done but links and placements
+    -- an accepted event; a is the state with all done but links and placements
+    module _ (accepts : judge s e ≡ 0) where
       abbrev a : State
       a = edited s.setup e (charged (step_of s e) s)
 
@@ -156,7 +147,7 @@ module _ (x : Plain) (e : Event) (long : length x.order.tasks ≡ most_tasks) (Z
       read = placed_in a (order_in a) s.processors e
 
       Q : Sound s
-      Q = sound_is known
+      Q = sound_or_not _ (sound_of_test s Z) (λ h. absurd (omega (arith, accepts, unsound_judged s e h)))
 
       order_is : order_in a ≡ order_of a
       order_is =
@@ -170,33 +161,19 @@ module _ (x : Plain) (e : Event) (long : length x.order.tasks ≡ most_tasks) (Z
       unfolding step
       state_is = ap (λ (p : Processors). with_processors p a) read_is ∙ sym (step_does cold s e accepts)
 
-      sound_accepted : plain_step x e ≡ record { answer = 0; session = record { state = with_processors read a; order = order_in a } }
+      sound_accepted : record { answer = 0; session = record { state = with_processors read a; order = order_in a } } ≡ plain_step x e
       unfolding plain_step step step_by
       sound_accepted =
           let z : order_of (step s e).state ≡ order_in a = ap order_of (sym state_is) ∙ order_with a read ∙ sym order_is in
-          rw (is_in_order, z, ← state_is, eq-eqb (judge s e) 0 accepts)
+          rw (is_in_order (test_of_sound s Q), z, ← state_is, eq-eqb (judge s e) 0 accepts)
 
-  -- ---- what the code returns
-  sound_or_not : (P : Type 0) → (sound s ≡ true → P) → (sound s ≡ false → P) → P
-  sound_or_not P is isn't = go (sound s) refl
-    where
-      go : (b : Bool) → sound s ≡ b → P
-      go true h = is h
-      go false h = isn't h
-
-  pub step_refuses : (answer : ℕ) → answer ≡ (if same_order x.order (order_in x.state) then (unplaced x.state e).answer else not_sound) → answer ≢ 0
-      → record { answer = answer; session = x } ≡ plain_step x e
-  step_refuses answer q d = sound_or_not (record { answer = answer; session = x } ≡ plain_step x e)
-      (λ h. ap (λ (n : ℕ). record { answer = n; session = x }) q ∙ sym (sound_refused h (λ z. d (q ∙ z))))
-      (λ h. ap (λ (n : ℕ). record { answer = n; session = x }) (q ∙ given_unsound h) ∙ sym (unsound_step h))
-
-  pub step_accepts : (answer : ℕ) → answer ≡ (if same_order x.order (order_in x.state) then (unplaced x.state e).answer else not_sound) → answer ≡ 0
-      → let y = (unplaced x.state e).state in
-      record { answer = 0; session = record { state = with_processors (placed_in y (order_in y) x.state.processors e) y; order = order_in y } } ≡ plain_step x e
-  unfolding unplaced
-  step_accepts answer q z = sound_or_not _
-      (λ h. let ok = sym q ∙ z in rw (eq-eqb (judge s e) 0 (accepts h ok)) (sym (sound_accepted h ok)))
-      (λ h. absurd (omega (arith, z, q ∙ given_unsound h)))
+    pub step_accepts : (y : State) → record { answer = 0; state = y } ≡ unplaced s e
+        → record { answer = 0; session = record { state = with_processors (placed_in y (order_in y) s.processors e) y; order = order_in y } } ≡ plain_step x e
+    unfolding unplaced
+    step_accepts y q =
+        let ok : judge s e ≡ 0 = sym (ap (λ (r : Reply). r.answer) q ∙ replied_answer s e _) in
+        let state : y ≡ edited s.setup e (charged (step_of s e) s) = ap (λ (r : Reply). r.state) (rw (eq-eqb (judge s e) 0 ok) at q) in
+        rw state (sound_accepted ok)
 
 -- ---- a session that is in the order of its state if that is sound is stepped as the rules step the state
 abbrev pub Kept : Plain → Type 0
@@ -206,10 +183,6 @@ pub record Follows (x : Plain) (e : Event) : Type 0 where
   pub answer : (plain_step x e).answer ≡ (step x.state e).answer
   pub state : (plain_step x e).session.state ≡ (step x.state e).state
   pub kept : Kept (plain_step x e).session
-
-stepped : (x : Plain) (e : Event) (b : Bool) → is_ordered x ≡ b → plain_step x e ≡ (if b then plain_reply (step x.state e) else record { answer = not_sound; session = x })
-unfolding plain_step
-stepped x e b q = rw q
 
 as_stepped : (x : Plain) (e : Event) (r : PlainReply) → plain_step x e ≡ r → r.answer ≡ (step x.state e).answer → r.session.state ≡ (step x.state e).state → Kept r.session → Follows x e
 as_stepped x e r q a b k = record {

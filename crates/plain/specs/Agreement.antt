@@ -8,8 +8,7 @@ use Rattle.input.specs.declared.Event.{Event}
 use Rattle.protocol.specs.Words.{task}
 use Rattle.protocol.specs.Events.{begin, run, reply_at}
 use Rattle.states.specs.Writing.{snapshot_of}
-use Rattle.plain.specs.Engine.{plain_begin, plain_step, plain_run}
-use Rattle.plain.specs.declared.PlainReply.{PlainReply}
+use Rattle.plain.specs.Engine.{PlainReply, plain_begin, plain_step, plain_run}
 
 -- the plain engine's answer to event n of a list, and the session after it
 abbrev pub plain_reply_at : Setup → List Event → ℕ → PlainReply

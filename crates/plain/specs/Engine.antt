@@ -1,13 +1,24 @@
 -- The plain engine answers as the rules do, and keeps the order of its state.
-use Rattle.std.specs.Prelude.{List, [], ◌∷◌, if◌then◌else◌}
+use Rattle.std.specs.Prelude.{ℕ, List, [], ◌∷◌, Result, Ok, Err, if◌then◌else◌}
+use Rattle.numbers.specs.Answers.{number_of}
 use Rattle.numbers.specs.Refusals.{not_sound}
+use Rattle.numbers.specs.declared.answers.Refusal.{Refusal}
 use Rattle.input.specs.declared.Setup.{Setup}
 use Rattle.input.specs.declared.Event.{Event}
 use Rattle.protocol.specs.Events.{begin, step}
 use Rattle.protocol.specs.Replies.{Reply}
 use Rattle.plain.specs.Orders.{ordered, is_ordered}
 use Rattle.plain.specs.declared.Plain.{Plain}
-use Rattle.plain.specs.declared.PlainReply.{PlainReply}
+
+-- the answer to a set-up or an event, and the session after it
+pub record PlainReply : Type 0 where
+  pub answer : ℕ
+  pub session : Plain
+
+-- what the code returns as a reply; where it refuses, the session is `kept`
+abbrev pub plain_reply_from : Plain → Result Plain Refusal → PlainReply
+plain_reply_from kept (Ok after) = record { answer = 0; session = after }
+plain_reply_from kept (Err refusal) = record { answer = number_of refusal; session = kept }
 
 -- a reply of the rules, with the order of its state
 abbrev pub plain_reply : Reply → PlainReply

@@ -16,16 +16,19 @@ use Rattle.setups.specs.Naming.{group_of}
 use Rattle.protocol.specs.Records.{no_task}
 use Rattle.protocol.specs.Words.{suspended, standing_no, task, group}
 use Rattle.protocol.specs.declared.State.{State}
+use Rattle.protocol.specs.declared.Task.{Task}
 use Rattle.priorities.specs.Bounds.{mode_in, jobs_in}
 use Rattle.plain.specs.Orders.{task_at, order_from}
 use Rattle.plain.specs.declared.Order.{Order}
 
+-- the number of each task's standing
+abbrev pub stands_in : List Task → List ℕ
+stands_in tasks = table (λ t. standing_no (get_or tasks t no_task).standing) most_tasks
+
 -- the order of a state's pending jobs, by the ranks that the code computes; of a sound state it is `order_of`
 unfoldable pub order_in : State → Order
 order_in s =
-    order_from
-    (jobs_in s.setup.kinds s.setup.resources s.tasks s.groups).ranks
-    (table (λ t. standing_no (get_or s.tasks t no_task).standing) most_tasks)
+    order_from (jobs_in s.setup.kinds s.setup.resources s.tasks s.groups).ranks (stands_in s.tasks)
 
 -- the modes of a state's jobs
 abbrev pub modes_in : State → List ℕ
@@ -33,11 +36,11 @@ modes_in s = table (λ t. mode_in s.setup.kinds (get_or s.tasks t no_task)) most
 
 -- ---- what is read
 -- the place of t; `pending` where it has none
-unfoldable pub place_in : Order → ℕ → ℕ
+abbrev pub place_in : Order → ℕ → ℕ
 place_in o t = first (λ i. task_at o i is t) 0 o.pending
 
 -- the place of the first job that is runnable and unlinked; `pending` where there is none
-unfoldable pub next_in : Order → List ℕ → Processors → ℕ
+abbrev pub next_in : Order → List ℕ → Processors → ℕ
 next_in o modes p = first (λ i. is_unlinked p (jobs_from [] modes) (task_at o i)) 0 o.pending
 
 -- the processor of the last linked job among the first n; `most_processors` where there is none
@@ -49,20 +52,20 @@ lowest_in o p (suc n) =
 -- ---- the moves
 module _ (o : Order) (modes : List ℕ) (p : Processors) where
   -- t takes the link of processor k, if it stands before the job that is linked there
-  unfoldable pub displacing_in : ℕ → ℕ → Processors
+  abbrev pub displacing_in : ℕ → ℕ → Processors
   displacing_in t k =
       if leb (place_in o (link p k)) (place_in o t) then p
       else if can_preempt p (jobs_from [] modes) k then place_on p k t
       else link_on p k t
 
   -- t arrives or resumes
-  unfoldable pub arriving_in : ℕ → Processors
+  abbrev pub arriving_in : ℕ → Processors
   arriving_in t =
       if ltb (lowest_free p) most_processors then place_on p (lowest_free p) t
       else displacing_in t (lowest_in o p o.pending)
 
   -- the free processor k takes the next job; if that runs on q, it is linked there, and q's link comes to k
-  unfoldable pub filling_in : ℕ → Processors
+  abbrev pub filling_in : ℕ → Processors
   filling_in k =
       let i = next_in o modes p in
       let next = task_at o i in
@@ -73,13 +76,13 @@ module _ (o : Order) (modes : List ℕ) (p : Processors) where
 
 module _ (o : Order) (modes : List ℕ) (p : Processors) (t : ℕ) where
   -- t finishes or suspends
-  unfoldable pub leaving_in : Processors
+  abbrev pub leaving_in : Processors
   leaving_in =
       let k = run_of p t in
       if k is most_processors then p else awaited_else p k (filling_in o modes (place_on p k nobody) k)
 
   -- t gives way
-  unfoldable pub giving_way_in : Processors
+  abbrev pub giving_way_in : Processors
   giving_way_in = if ltb (next_in o modes p) (place_in o t) then leaving_in else p
 
 -- ---- after an event; s is the state with all else done, o its order
@@ -89,11 +92,11 @@ asleep_in modes t = set modes t off
 
 module _ (s : State) (o : Order) (modes : List ℕ) (p : Processors) where
   -- t has requested a resource
-  unfoldable pub requested_in : ℕ → Processors
+  abbrev pub requested_in : ℕ → Processors
   requested_in t = if standing_no (task s t).standing is suspended then leaving_in o modes p t else p
 
   -- t has completed its request for r
-  unfoldable pub completed_in : ℕ → ℕ → Processors
+  abbrev pub completed_in : ℕ → ℕ → Processors
   completed_in t r =
       let holder = (group s (group_of s.setup r)).holder in
       let given = giving_way_in o (asleep_in modes holder) p t in
@@ -103,7 +106,7 @@ module _ (s : State) (o : Order) (modes : List ℕ) (p : Processors) where
       else arriving_in o modes given holder
 
 -- the links and placements after event e
-unfoldable pub placed_in : State → Order → Processors → Event → Processors
+abbrev pub placed_in : State → Order → Processors → Event → Processors
 placed_in s o p e =
     if e.kind is arrival then arriving_in o (modes_in s) p e.task
     else if e.kind is finish then leaving_in o (modes_in s) p e.task

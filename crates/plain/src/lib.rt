@@ -16,8 +16,9 @@ use protocol::State;
 pub use stepping::{begin, step};
 
 // The pending jobs, suspended ones too, by effective priority: the tasks in the first `pending` places, the
-// highest-priority one first. The other places have nobody.
-#[derive(Clone, Copy)]
+// highest-priority one first. The other places have nobody. As memory is fixed, this is an array with room for all
+// tasks and a count, and so specs/Orders and the contracts have it.
+#[derive(Clone, Copy, PartialEq, Eq)]
 pub struct Order {
     pub tasks: [u8; Setup::TASKS],
     pub pending: usize,
@@ -28,11 +29,4 @@ pub struct Order {
 pub struct Plain {
     pub state: State,
     pub order: Order,
-}
-
-// The answer to a set-up or an event, and the session after it.
-#[derive(Clone, Copy)]
-pub struct PlainReply {
-    pub answer: u8,
-    pub session: Plain,
 }

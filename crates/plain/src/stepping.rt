@@ -1,93 +1,67 @@
 // One event: the answer, the locks, the new order, and the links and placements read off it.
-ghost use Rattle.std.specs.Prelude.{◌≡◌, get_or};
-ghost use Rattle.protocol.specs.Records.{no_group, with_processors};
-ghost use Rattle.plain.specs.Engine.{plain_begin, plain_step};
-ghost use Rattle.plain.specs.Reading.{asleep_in, requested_in, completed_in, placed_in};
+ghost use Rattle.std.specs.Prelude.{◌≡◌};
+ghost use Rattle.protocol.specs.Words.{group};
+ghost use Rattle.setups.specs.Naming.{group_of};
+ghost use Rattle.protocol.specs.Events.{fresh};
+ghost use Rattle.input.specs.Words.{no_setup};
+ghost use Rattle.plain.specs.Orders.{ordered};
+ghost use Rattle.plain.specs.Engine.{plain_reply_from, plain_begin, plain_step};
+ghost use Rattle.plain.specs.Reading.{requested_in, completed_in, placed_in};
 
-use crate::moving::{arrive, become_preemptable, give_way, leave};
-use crate::ordering::{is_same, order_of};
-use crate::{Order, Plain, PlainReply};
-use input::{Event, Setup};
+use crate::moving::{OrderedJobs, become_preemptable};
+use crate::ordering::order_of;
+use crate::{Order, Plain};
+use input::{Event, Kind, Setup};
 use numbers::{Limit, Refusal};
-use processors::{Jobs, Modes, Processors};
-use protocol::{Group, State, Task};
+use processors::Processors;
+use protocol::{Lock, Standing, State};
 
-// The session that a set-up begins with; a refused one gives the empty state, in which nobody is pending either.
-pub fn begin(setup: Setup) -> PlainReply
-    ensures { result ≡ plain_begin setup }
+// The session that a set-up begins with, or its refusal.
+pub fn begin(setup: Setup) -> Result<Plain, Refusal>
+    ensures { plain_reply_from (ordered (fresh no_setup)) result ≡ plain_begin setup }
 {
-    let reply = states::begin(setup);
-    let state = reply.state;
-    PlainReply {
-        answer: reply.answer,
-        session: Plain {
-            state,
-            order: order_of(state),
-        },
-    }
+    let state = states::begin(setup)?;
+    let order = order_of(state);
+    Ok(Plain { state, order })
 }
 
-// The holder of group `g`, or nobody.
-fn holder_of(groups: [Group; Setup::RESOURCES], g: u8) -> u8
-    ensures { result ≡ (get_or groups g no_group).holder }
+// The holder of the group of resource `r`, or nobody.
+fn holder_of(state: State, r: u8) -> u8
+    ensures { result ≡ (group state (group_of state.setup r)).holder }
 {
-    let i = g as usize;
-    if i < Setup::RESOURCES {
-        let group = groups[i];
-        group.holder
-    } else {
-        Limit::NOBODY
-    }
-}
-
-// The modes, with the job of `t` asleep.
-fn asleep(modes: Modes, t: u8) -> Modes
-    ensures { result ≡ asleep_in modes t }
-{
-    let i = t as usize;
-    let mut next = modes;
-    if i < Jobs::LIMIT {
-        next[i] = Jobs::OFF;
-    }
-    next
+    let names = setups::names_of(state.setup);
+    let group = numbers::number_at(&names, usize::from(r));
+    search::entry(&state.groups, usize::from(group), states::no_group()).holder
 }
 
 // The job of `t` has requested a resource: if it is suspended now, it leaves its processor.
-fn requested(after: State, order: Order, modes: &Modes, p: Processors, t: u8) -> Processors
-    ensures { result ≡ requested_in after order modes.now p t }
+fn requested(after: State, jobs: &OrderedJobs, p: Processors, t: u8) -> Processors
+    ensures { result ≡ requested_in after jobs.now.order jobs.now.modes p t }
 {
-    let tasks = after.tasks;
-    let task = states::task_at(tasks, t);
-    let standing = task.standing;
-    if states::stand_of(standing) == Task::SUSPENDED {
-        leave(order, modes, p, t)
-    } else {
-        p
+    match states::task_at(after.tasks, t).standing {
+        Standing::Waiting(Lock::Long(_)) => jobs.leave(p, t),
+        _ => p,
     }
 }
 
 // The job of `t` has completed its request for `r`. If it holds the group still, the request was an inner one. Else it
 // becomes preemptable after a short one. After a long one it gives way, while the next holder is still asleep; then
 // that resumes.
-fn completed(after: State, order: Order, modes: Modes, p: Processors, t: u8, r: u8) -> Processors
-    ensures { result ≡ completed_in after order modes p t r }
+fn completed(after: State, jobs: &OrderedJobs, p: Processors, t: u8, r: u8) -> Processors
+    ensures { result ≡ completed_in after jobs.now.order jobs.now.modes p t r }
 {
-    let setup = after.setup;
-    let kinds = setup.kinds;
-    let groups = after.groups;
-    let group = setups::named_at(setups::names_of(setup), r);
-    let holder = holder_of(groups, group);
+    let holder = holder_of(after, r);
     if holder == t {
         return p;
     }
-    if states::kind_at(kinds, r) == Setup::SHORT {
+    if states::kind_at(after.setup.kinds, r) == Setup::SHORT {
         return become_preemptable(p, t);
     }
-    let given = give_way(order, &asleep(modes, holder), p, t);
+    let given = jobs.with_asleep(holder).give_way(p, t);
     if holder == Limit::NOBODY {
         given
     } else {
-        arrive(order, &modes, given, holder)
+        jobs.arrive(given, holder)
     }
 }
 
@@ -96,61 +70,35 @@ fn completed(after: State, order: Order, modes: Modes, p: Processors, t: u8, r: 
 fn placed(after: State, order: Order, p: Processors, e: Event) -> Processors
     ensures { result ≡ placed_in after order p e }
 {
-    let setup = after.setup;
-    let kinds = setup.kinds;
-    let tasks = after.tasks;
-    let modes = priorities::modes_of(kinds, tasks);
-    if e.kind == Event::ARRIVAL {
-        arrive(order, &modes, p, e.task)
-    } else if e.kind == Event::FINISH {
-        leave(order, &modes, p, e.task)
-    } else if e.kind == Event::REQUEST {
-        requested(after, order, &modes, p, e.task)
-    } else if e.kind == Event::COMPLETION {
-        completed(after, order, modes, p, e.task, e.resource)
-    } else {
-        p
+    let modes = priorities::modes_of(after.setup.kinds, after.tasks);
+    let jobs = OrderedJobs { order, modes };
+    match Kind::try_from(e.kind) {
+        Ok(Kind::Arrival) => jobs.arrive(p, e.task),
+        Ok(Kind::Finish) => jobs.leave(p, e.task),
+        Ok(Kind::Request) => requested(after, &jobs, p, e.task),
+        Ok(Kind::Completion) => completed(after, &jobs, p, e.task, e.resource),
+        Ok(Kind::Passing) => p,
+        Err(_) => p,
     }
 }
 
-// The state with other links and placements.
-fn with_processors(state: State, p: Processors) -> State
-    ensures { result ≡ with_processors p state }
+// The session after an event, or the event's refusal, which leaves the session as it was. A session that is not in the
+// order of its state is not sound.
+pub fn step(x: Plain, e: Event) -> Result<Plain, Refusal>
+    ensures { plain_reply_from x result ≡ plain_step x e }
 {
-    let mut next = state;
-    next.processors = p;
-    next
-}
-
-// The answer to an event, and the session after it; a refused event leaves the session as it was. If the order is not
-// that of the state, the session is not sound.
-pub fn step(x: Plain, e: Event) -> PlainReply
-    ensures { result ≡ plain_step x e }
-{
-    let state = x.state;
-    let order = x.order;
-    let p = state.processors;
-    if !is_same(order, order_of(state)) {
-        return PlainReply {
-            answer: Refusal::NOT_SOUND,
-            session: x,
-        };
+    let Plain { state, order } = x;
+    if order != order_of(state) {
+        return Err(Refusal::NotSound);
     }
-    let reply = locking::unplaced(state, e);
-    if reply.answer != 0 {
-        return PlainReply {
-            answer: reply.answer,
-            session: x,
-        };
-    }
-    let after = reply.state;
+    let after = locking::unplaced(state, e)?;
     let now = order_of(after);
-    let next = with_processors(after, placed(after, now, p, e));
-    PlainReply {
-        answer: 0,
-        session: Plain {
-            state: next,
-            order: now,
+    let processors = placed(after, now, state.processors, e);
+    Ok(Plain {
+        state: State {
+            processors,
+            ..after
         },
-    }
+        order: now,
+    })
 }

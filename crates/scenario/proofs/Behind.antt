@@ -1,104 +1,121 @@
--- What stands behind a name, word after word: the rows of what is wrong, and the item. Assumes nothing.
-use Prim.Native.Nat.{ℕ, ◌<◌}
-use mathlib.Core.Path.{◌≡◌, refl, sym, ap, ◌∙◌}
-use mathlib.Core.Bool.{Bool, true, false, not}
-use mathlib.Core.List.{List}
-use mathlib.Core.Logic.{◌≢◌}
-use native.Mathlib.Omega.{arith}
-use lib.Dec.{leb}
-use lib.ListN.{drop}
-use borrow.Author.Tests.{leb-false, eq-eqb, ne_eqb}
+-- What stands behind an item's name, word after word: what is wrong, or what the item says. Assumes nothing.
+use Rattle.std.proofs.Common.{◌≡◌, ◌≢◌, ℕ, zero, suc, ◌<◌, Bool, true, false, not, List, [], ◌∷◌, length, get_or, take, refl, arith, Result, Ok, Err, ne_eqb, eqb-true}
 use Rattle.std.specs.Prelude.{if◌then◌else◌}
 use Rattle.search.specs.Words.{◌is◌}
-use Rattle.numbers.specs.Rows.{first_of}
-use Rattle.scenario.specs.Words.{word}
-use Rattle.scenario.specs.Items.{unknown, no_more, item_count, entry_at, sort_at, argument_at, wrong_rows, item_behind}
-use Rattle.scenario.specs.Reads.{IsRead, Fit, form_of}
-use Rattle.scenario.specs.declared.Argument.{Argument}
-use Rattle.scenario.specs.declared.Form.{Form}
-use Rattle.scenario.specs.declared.Read.{Read}
+use Rattle.numbers.specs.Rows.{Row, ◌when◌, ◌otherwise◌, first_of}
+use Rattle.scenario.specs.Words.{is_blank, blanks, letters, first_word, behind, word}
+use Rattle.scenario.specs.Items.{unknown, no_more, one, not_one, argument_of, item_count, entry_at, sort_at, wrong_rows, item_behind}
+use Rattle.scenario.specs.Reads.{said_by, said_with}
+use Rattle.scenario.specs.Named.{place}
+use Rattle.scenario.specs.declared.Item.{Item}
 use Rattle.scenario.specs.declared.Item.TheVariants.{Wrong}
-use Rattle.scenario.proofs.Sorts.{argument_small, fifth_none}
+use Rattle.scenario.specs.declared.items.Name.{Name}
+use Rattle.scenario.specs.declared.items.Name.TheVariants.{Processors, Start, Task, Resource, Pair, Arrive, Finish, Request, Complete, Pass, Event, Block}
 
--- one row more, in front of the later ones
-row_on : {x y : Argument} {s t later rest r : ℕ} → x ≡ y → s ≡ t → later ≡ rest
-    → r ≡ (if not x.right then s else later) → r ≡ (if not y.right then t else rest)
-row_on p q f e = rw (e, p, q, f)
+-- ---- behind the last word there is none
+behind_none : (l : List ℕ) → length (first_word l) ≡ 0 → behind l ≡ []
+unfolding blanks letters
+behind_none [] z = refl
+behind_none (c ∷ l) z = go (is_blank c) refl (behind_none l)
+  where
+    go : (b : Bool) → is_blank c ≡ b → (length (first_word l) ≡ 0 → behind l ≡ []) → behind (c ∷ l) ≡ []
+    go true e rest = rw e (rest (rw e at z))
+    go false e rest = let never : suc (length (take (letters l) l)) ≡ 0 = rw (e, e) at z in absurd (omega arith)
 
-no_row : ◌≡◌ {A = ℕ} 0 0
-no_row = refl
+-- a word that is no word more is empty
+ended : (w : List ℕ) → (argument_of no_more w).right ≡ true → length w ≡ 0
+unfolding argument_of
+ended w r = go (length w is 0) refl r
+  where
+    go : (b : Bool) → (length w is 0) ≡ b → (if b then one 0 else not_one).right ≡ true → length w ≡ 0
+    go true e r = eqb-true (length w) 0 e
+    go false e r = cc
 
--- ---- five words read one behind another, of an item's sorts
-module _ (l : List ℕ) (at i : ℕ) (form : Form) (has : form ≡ form_of i) (a b c d e : Read)
-    (ra : IsRead l at form.0 a) (rb : IsRead l a.end form.1 b) (rc : IsRead l b.end form.2 c)
-    (rd : IsRead l c.end form.3 d) (re : IsRead l d.end no_more e) where
-  abbrev rest : List ℕ
-  rest = drop at l
+-- ---- what is wrong, row after row, or the item
+abbrev out : List Row → Item → Item
+out rows item = if first_of rows is 0 then item else Wrong (first_of rows)
 
-  pub first_read : a.argument ≡ argument_at i rest 0
-  unfolding word
-  first_read = ra.argument ∙ rw has
+out_on : (sort : ℕ) (right : Bool) (later : List Row) (item : Item) → sort ≢ 0
+    → out (sort when not right otherwise later) item ≡ (if right then out later item else Wrong sort)
+out_on sort true later item n = refl
+out_on sort false later item n = rw (ne_eqb sort 0 n)
 
-  pub second_read : b.argument ≡ argument_at i rest 1
-  unfolding word
-  second_read = rb.argument ∙ rw (ra.rest, has)
+-- the rows of words of these sorts, and then of no word more
+abbrev rows_of : List ℕ → ℕ → List ℕ → List Row
+rows_of sorts zero rest = []
+rows_of [] (suc n) rest =
+    no_more when not (argument_of no_more (first_word rest)).right otherwise rows_of [] n (behind rest)
+rows_of (sort ∷ sorts) (suc n) rest =
+    sort when not (argument_of sort (first_word rest)).right otherwise rows_of sorts n (behind rest)
 
-  pub third_read : c.argument ≡ argument_at i rest 2
-  unfolding word
-  third_read = rc.argument ∙ rw (rb.rest, ra.rest, has)
+-- the values of words of these sorts
+abbrev values_of : List ℕ → List ℕ → List ℕ
+values_of [] rest = []
+values_of (sort ∷ sorts) rest = (argument_of sort (first_word rest)).value ∷ values_of sorts (behind rest)
 
-  pub fourth_read : d.argument ≡ argument_at i rest 3
-  unfolding word
-  fourth_read = rd.argument ∙ rw (rc.rest, rb.rest, ra.rest, has)
+-- past the last word every row passes
+none_wrong : (n : ℕ) → first_of (rows_of [] n []) ≡ 0
+unfolding blanks letters argument_of
+none_wrong zero = refl
+none_wrong (suc n) = none_wrong n
 
-  pub fifth_read : e.argument ≡ argument_at i rest 4
-  unfolding word
-  fifth_read = re.argument ∙ rw (rd.rest, rc.rest, rb.rest, ra.rest, fifth_none i)
+-- what is said by words of these sorts, with no word more
+abbrev pub told : Result (Item × List ℕ) ℕ → Item
+told (Ok (item, rest)) = if (argument_of no_more (first_word rest)).right then item else Wrong no_more
+told (Err sort) = Wrong sort
 
-  -- what is wrong with them, row after row from the last on
-  pub wrong_read : (r4 r3 r2 r1 r0 wrong : ℕ)
-      → r4 ≡ (if not e.argument.right then no_more else 0)
-      → r3 ≡ (if not d.argument.right then form.3 else r4)
-      → r2 ≡ (if not c.argument.right then form.2 else r3)
-      → r1 ≡ (if not b.argument.right then form.1 else r2)
-      → r0 ≡ (if not a.argument.right then form.0 else r1)
-      → wrong ≡ (if leb item_count i then unknown else r0)
-      → wrong ≡ first_of (wrong_rows i rest)
-  unfolding wrong_rows
-  wrong_read r4 r3 r2 r1 r0 wrong e4 e3 e2 e1 e0 w =
-      let w4 = row_on fifth_read (sym (fifth_none i)) no_row e4 in
-      let w3 = row_on fourth_read (ap (λ (f : Form). f.3) has) w4 e3 in
-      let w2 = row_on third_read (ap (λ (f : Form). f.2) has) w3 e2 in
-      let w1 = row_on second_read (ap (λ (f : Form). f.1) has) w2 e1 in
-      let w0 = row_on first_read (ap (λ (f : Form). f.0) has) w1 e0 in
-      rw (w, w0)
+abbrev IsSorts : List ℕ → Type 0
+IsSorts [] = Unit {0}
+IsSorts (sort ∷ sorts) = (sort ≢ 0) × IsSorts sorts
 
-  -- their values fit
-  pub all_fit : Fit i a.argument.value b.argument.value c.argument.value d.argument.value
-  all_fit = (
-    rw first_read (argument_small (sort_at i 0) (word 0 rest)),
-    rw second_read (argument_small (sort_at i 1) (word 1 rest)),
-    rw third_read (argument_small (sort_at i 2) (word 2 rest)),
-    rw fourth_read (argument_small (sort_at i 3) (word 3 rest)),
-  )
+rows_told : (sorts : List ℕ) (n : ℕ) (says : List ℕ → Item) (rest : List ℕ) → length sorts < n → IsSorts sorts
+    → out (rows_of sorts n rest) (says (values_of sorts rest)) ≡ told (said_by sorts says rest)
+unfolding said_by
+rows_told sorts zero says rest h s = absurd (omega arith)
+rows_told [] (suc n) says rest h s = go (argument_of no_more (first_word rest)).right refl
+  where
+    go : (b : Bool) → (argument_of no_more (first_word rest)).right ≡ b
+        → out (rows_of [] (suc n) rest) (says []) ≡ told (Ok (says [], rest))
+    go true e = rw (e, behind_none rest (ended (first_word rest) e), none_wrong n)
+    go false e = rw e
+rows_told (sort ∷ sorts) (suc n) says rest h s =
+    go (argument_of sort (first_word rest)).right refl
+    (rows_told sorts n (λ values. says ((argument_of sort (first_word rest)).value ∷ values)) (behind rest)
+    (omega arith) s.1)
+  where
+    more : List ℕ → Item
+    more values = says ((argument_of sort (first_word rest)).value ∷ values)
 
--- ---- what is wrong, or what the item says
-module _ (i : ℕ) (rest : List ℕ) where
-  pub behind_wrong : (wrong : ℕ) → wrong ≡ first_of (wrong_rows i rest) → wrong ≢ 0 → Wrong wrong ≡ item_behind i rest
-  unfolding item_behind
-  behind_wrong wrong e d =
-      let n : (first_of (wrong_rows i rest) is 0) ≡ false = ne_eqb _ 0 (λ z. d (e ∙ z)) in
-      rw (e, n)
+    go : (b : Bool) → (argument_of sort (first_word rest)).right ≡ b
+        → out (rows_of sorts n (behind rest)) (says (values_of (sort ∷ sorts) rest))
+        ≡ told (said_by sorts more (behind rest))
+        → out (rows_of (sort ∷ sorts) (suc n) rest) (says (values_of (sort ∷ sorts) rest))
+        ≡ told (said_by (sort ∷ sorts) says rest)
+    go true e later = rw e later
+    go false e later = rw (e, ne_eqb sort 0 s.0)
 
-  module _ (z : first_of (wrong_rows i rest) ≡ 0) where
-    pub behind_right : item_behind i rest ≡ (entry_at i).says (λ k. (argument_at i rest k).value)
-    unfolding item_behind
-    behind_right = rw (eq-eqb (first_of (wrong_rows i rest)) 0 z)
+-- ---- each item of the table
+told_at : (i : ℕ) (rest : List ℕ) → length (entry_at i).sorts < 5 → IsSorts (entry_at i).sorts
+    → out (rows_of (entry_at i).sorts 5 rest) ((entry_at i).says (λ k. get_or (values_of (entry_at i).sorts rest) k 0))
+    ≡ told (said_with i rest)
+unfolding said_with
+told_at i rest h s = rows_told (entry_at i).sorts 5 (λ values. (entry_at i).says (λ k. get_or values k 0)) rest h s
 
-    pub in_table : i < item_count
-    unfolding wrong_rows
-    in_table = go (leb item_count i) _ refl z
-      where
-        go : (b : Bool) (later : ℕ) → leb item_count i ≡ b → (if b then unknown else later) ≡ 0 → i < item_count
-        go true later e h = absurd (omega arith)
-        go false later e h = leb-false item_count i e
+pub behind_is : (name : Name) (rest : List ℕ) → item_behind (place name) rest ≡ told (said_with (place name) rest)
+unfolding item_behind wrong_rows entry_at sort_at word
+behind_is Processors rest = told_at 0 rest (omega arith) (omega arith, tt)
+behind_is Start rest = told_at 1 rest (omega arith) (omega arith, tt)
+behind_is Task rest = told_at 2 rest (omega arith) (omega arith, tt)
+behind_is Resource rest = told_at 3 rest (omega arith) (omega arith, tt)
+behind_is Pair rest = told_at 4 rest (omega arith) (omega arith, (omega arith, tt))
+behind_is Arrive rest = told_at 5 rest (omega arith) (omega arith, (omega arith, tt))
+behind_is Finish rest = told_at 6 rest (omega arith) (omega arith, (omega arith, tt))
+behind_is Request rest = told_at 7 rest (omega arith) (omega arith, (omega arith, (omega arith, tt)))
+behind_is Complete rest = told_at 8 rest (omega arith) (omega arith, (omega arith, (omega arith, tt)))
+behind_is Pass rest = told_at 9 rest (omega arith) (omega arith, tt)
+behind_is Event rest = told_at 10 rest (omega arith) (omega arith, (omega arith, (omega arith, (omega arith, tt))))
+behind_is Block rest = told_at 11 rest (omega arith) tt
+
+pub behind_unknown : (rest : List ℕ) → item_behind item_count rest ≡ Wrong unknown
+unfolding item_behind wrong_rows
+behind_unknown rest = refl

@@ -17,15 +17,8 @@ use Rattle.writer.specs.declared.Events.{Events}
 use Rattle.scenario.specs.Drafts.{no_events, adding, filling, kept, faulty, missing, answered, settled, setup_ends, block_ends, event_taken, block_taken}
 use Rattle.scenario.specs.Made.{Blocks, before}
 use Rattle.scenario.specs.declared.Draft.{Draft}
-use Rattle.scenario.specs.declared.Outcome.TheVariants.{Written, Refused}
-use Rattle.scenario.specs.declared.Taken.{Taken}
-
--- ---- an item of the set-up: the next draft is of no account where the item is barred
-pub settled_same : (d : Draft) (reason : ℕ) (bars : Bool) (next other : Draft) → (bars ≡ false → next ≡ other)
-    → settled d reason bars next ≡ settled d reason bars other
-unfolding settled
-settled_same d reason true next other h = refl
-settled_same d reason false next other h = rw (h refl)
+use Rattle.scenario.specs.Outcomes.{Written, Refused}
+use Rattle.scenario.specs.Outcomes.{Taken}
 
 -- ---- an event and `block`, where the tests are known
 module _ (d : Draft) (out : List ℕ) where

@@ -1,38 +1,107 @@
--- The words of a line, place by place, and what a word is. Assumes nothing.
-use Prim.Native.Nat.{ℕ, suc, ◌+◌, ◌-◌, ◌*◌, ◌<◌, ◌≤◌}
-use mathlib.Core.Path.{◌≡◌, refl, sym, ◌∙◌}
-use mathlib.Core.Bool.{true, false, ◌&&◌, and-false}
-use mathlib.Core.List.{List, [], ◌∷◌}
-use mathlib.Core.Logic.{◌≢◌}
-use native.Mathlib.Omega.{arith}
-use native.Mathlib.Numerals.{add-one}
-use lib.ListN.{length, get_or, take, drop, length-drop, drop_of_length-le}
-use lib.Seq.{drop-cons, drop-drop, take_all, length-take-le}
-use borrow.Author.Tests.{eq-eqb, ne_eqb, le-leb, lt-leb}
-use Rattle.search.specs.Words.{◌is◌, ◌isn't◌}
+-- The words of a line: where they begin and end, and what a word is. Assumes nothing.
+use Rattle.std.proofs.Common.{◌≡◌, ℕ, suc, ◌+◌, ◌-◌, ◌<◌, ◌≤◌, Bool, true, false, not, cond, ◌&&◌, List, [], ◌∷◌, length, get_or, take, drop, eqb, refl, sym, ap, ◌∙◌, arith, add-one, drop-cons, ne_eqb, leb-false, eq-eqb, le-leb, ◌≢◌, ◌*◌, take_all, Bor, ne_eqb, eq-eqb, le-leb, ◌≢◌, ◌*◌, drop_of_length-le, Option, Some, None}
+use Rattle.std.specs.List.{position_or_len, find}
+use Rattle.std.specs.Prelude.{if◌then◌else◌, Result, Ok, Err, MatchResult, leb}
+use Rattle.std.specs.Fn.{FnReturns, FnReturnsAt}
+use denote.Param.Members.{Shared}
+use Rattle.std.specs.Result.{OkIff, result_ok}
+use Rattle.std.specs.Option.{MatchOption, unwrap_or, option_map}
+use Rattle.std.specs.Cmp.Lexicographic.{pointwise}
+use Rattle.std.proofs.lemmas.List.Recursion.{is_position_or_len}
+use Rattle.std.proofs.lemmas.Bool.{lt-leb}
+use Rattle.std.proofs.Math.Bool.{and-true, and-false}
+use Rattle.search.specs.Words.{◌isn't◌}
 use Rattle.search.specs.Texts.{value_behind}
-use Rattle.scenario.specs.Words.{is_blank, blanks, letters, trimmed, first_word, behind, are_same, is_digit, are_digits, is_number}
-use Rattle.scenario.specs.Items.{one, not_one, number_in}
+use Rattle.scenario.specs.Words.{is_blank, blanks, letters, trimmed, first_word, behind, are_same, is_digit, are_digits, is_number, unended_length}
+use Rattle.scenario.specs.Arguments.{Argument}
+use Rattle.scenario.specs.Items.{one, not_one, number_in, argument_of}
+use Rattle.scenario.specs.Faults.{sort_number, reason_number}
+use Rattle.scenario.specs.Reads.{argument_from}
+use Rattle.scenario.specs.declared.faults.Sort.{Sort}
+use Rattle.scenario.specs.declared.faults.Reason.{Reason}
+use Rattle.scenario.specs.declared.faults.Reason.TheVariants.{Misfit}
 
--- ---- at a place of l that is inside it, and past its end
+-- ---- where the first word begins, and where it ends
+blanks_past : (c : ℕ) (l : List ℕ) → blanks (c ∷ l) ≡ cond (not (is_blank c)) 0 (1 + blanks l)
+unfolding blanks
+blanks_past c l =
+    elim (is_blank c) as (λ b. (if b then suc (blanks l) else 0) ≡ cond (not b) 0 (1 + blanks l))
+    [ true ↦ omega arith | false ↦ refl ]
+
+pub blanks_is : (l : List ℕ) → blanks l ≡ position_or_len (λ c. not (is_blank c)) l
+unfolding blanks
+blanks_is l = is_position_or_len blanks (λ c. not (is_blank c)) refl blanks_past l
+
+letters_past : (c : ℕ) (l : List ℕ) → letters (c ∷ l) ≡ cond (is_blank c) 0 (1 + letters l)
+unfolding letters
+letters_past c l =
+    elim (is_blank c) as (λ b. (if b then 0 else suc (letters l)) ≡ cond b 0 (1 + letters l))
+    [ true ↦ refl | false ↦ omega arith ]
+
+pub letters_is : (l : List ℕ) → letters l ≡ position_or_len is_blank l
+unfolding letters
+letters_is l = is_position_or_len letters is_blank refl letters_past l
+
+-- ---- two words
+pub are_same_is : (l m : List ℕ) → are_same l m ≡ pointwise eqb l m
+unfolding are_same
+are_same_is [] [] = refl
+are_same_is [] (d ∷ m) = refl
+are_same_is (c ∷ l) [] = refl
+are_same_is (c ∷ l) (d ∷ m) = ap (λ b. eqb c d && b) (are_same_is l m)
+
+-- ---- what stands beside a word in a table, row after row
+module _ {T V : Type 0} (says : Option T → V) (w : List ℕ) where
+  abbrev pub rows_say : List (Bor (List ℕ) × T) → V
+  rows_say [] = says None
+  rows_say (row ∷ rows) = if are_same w row.0.now then says (Some row.1) else rows_say rows
+
+  pub beside_is : (rows : List (Bor (List ℕ) × T))
+      → says (option_map (λ row. row.1) (find (λ row. pointwise eqb w row.0.now) rows)) ≡ rows_say rows
+  beside_is [] = refl
+  beside_is (row ∷ rows) = rw (are_same_is w row.0.now) (go (pointwise eqb w row.0.now) (beside_is rows))
+    where
+      go : (b : Bool)
+          → says (option_map (λ row. row.1) (find (λ row. pointwise eqb w row.0.now) rows)) ≡ rows_say rows
+          → says (option_map (λ row. row.1) (cond b (Some row) (find (λ row. pointwise eqb w row.0.now) rows)))
+          ≡ (if b then says (Some row.1) else rows_say rows)
+      go true later = refl
+      go false later = later
+
+-- ---- a first word by its two ends
+module _ (l trimmed_l word rest : List ℕ) (t : trimmed_l ≡ drop (position_or_len (λ c. not (is_blank c)) l) l) where
+  trimmed_is : trimmed_l ≡ trimmed l
+  trimmed_is = rw blanks_is t
+
+  pub word_is : word ≡ take (position_or_len is_blank trimmed_l) trimmed_l → word ≡ first_word l
+  word_is w = rw (letters_is, ← trimmed_is) w
+
+  pub behind_is : rest ≡ drop (position_or_len is_blank trimmed_l) trimmed_l → rest ≡ behind l
+  behind_is r = rw (letters_is, ← trimmed_is) r
+
+-- ---- the carriage return at a line's end
+last_is : (l : List ℕ) (c : ℕ)
+    → pointwise eqb (drop (length l - 1) l) (suc c ∷ []) ≡ eqb (get_or l (length l - 1) 0) (suc c)
+last_is [] c = sym (ne_eqb 0 (suc c) (λ e. absurd (omega arith)))
+last_is (d ∷ l) c =
+    let n = length (d ∷ l) - 1 in
+    let h : n < length (d ∷ l) = omega arith in
+    let none : drop (suc n) (d ∷ l) ≡ [] = drop_of_length-le (d ∷ l) {i = suc n} (omega arith) in
+    rw (drop-cons (d ∷ l) n 0 h, none) (and-true _)
+
+-- a line without it
+pub unended_is : (l : List ℕ) (r : Option (Bor (List ℕ))) (whole : Bor (List ℕ)) → whole.now ≡ l
+    → MatchOption r (pointwise eqb (drop (length l - 1) l) (13 ∷ []) ≡ false)
+    (λ x. (pointwise eqb (drop (length l - 1) l) (13 ∷ []) ≡ true) × (x.now ≡ take (length l - 1) l)
+    × (length x.now + 1 ≡ length l))
+    → (unwrap_or r whole).now ≡ take (unended_length l) l
+unfolding unended_length
+unended_is l None whole w f = rw (sym (last_is l 12) ∙ f) (w ∙ sym (take_all (length l) l (omega arith)))
+unended_is l (Some x) whole w f = rw (sym (last_is l 12) ∙ f.0) f.1
+
+-- ---- a number: at a place of l that is inside it, and past its end
 module _ (l : List ℕ) (i : ℕ) where
   module _ (h : i < length l) where
-    pub blanks_on : is_blank (get_or l i 0) ≡ true → blanks (drop i l) ≡ suc (blanks (drop (i + 1) l))
-    unfolding blanks
-    blanks_on b = rw (add-one, drop-cons l i 0 h, b)
-
-    pub blanks_off : is_blank (get_or l i 0) ≡ false → blanks (drop i l) ≡ 0
-    unfolding blanks
-    blanks_off b = rw (drop-cons l i 0 h, b)
-
-    pub letters_on : is_blank (get_or l i 0) ≡ false → letters (drop i l) ≡ suc (letters (drop (i + 1) l))
-    unfolding letters
-    letters_on b = rw (add-one, drop-cons l i 0 h, b)
-
-    pub letters_off : is_blank (get_or l i 0) ≡ true → letters (drop i l) ≡ 0
-    unfolding letters
-    letters_off b = rw (drop-cons l i 0 h, b)
-
     pub digits_on : is_digit (get_or l i 0) ≡ true → are_digits (drop i l) ≡ are_digits (drop (i + 1) l)
     unfolding are_digits
     digits_on b = rw (add-one, drop-cons l i 0 h, b)
@@ -45,14 +114,6 @@ module _ (l : List ℕ) (i : ℕ) where
     value_on v = rw (add-one, drop-cons l i 0 h)
 
   module _ (h : length l ≤ i) where
-    pub blanks_out : blanks (drop i l) ≡ 0
-    unfolding blanks
-    blanks_out = rw (drop_of_length-le l {i = i} h)
-
-    pub letters_out : letters (drop i l) ≡ 0
-    unfolding letters
-    letters_out = rw (drop_of_length-le l {i = i} h)
-
     pub digits_out : are_digits (drop i l) ≡ true
     unfolding are_digits
     digits_out = rw (drop_of_length-le l {i = i} h)
@@ -60,29 +121,7 @@ module _ (l : List ℕ) (i : ℕ) where
     pub value_out : (v : ℕ) → value_behind v (drop i l) ≡ v
     value_out v = rw (drop_of_length-le l {i = i} h)
 
--- ---- two words
-pub same_lengths : (l m : List ℕ) → length l ≢ length m → are_same l m ≡ false
-unfolding are_same
-same_lengths [] [] d = absurd (d refl)
-same_lengths [] (x ∷ m) d = refl
-same_lengths (c ∷ l) [] d = refl
-same_lengths (c ∷ l) (x ∷ m) d = rw (same_lengths l m (λ e. d (omega arith))) (and-false (c is x))
-
-module _ (l m : List ℕ) (i : ℕ) where
-  pub same_on : i < length l → i < length m → get_or l i 0 ≡ get_or m i 0
-      → are_same (drop i l) (drop i m) ≡ are_same (drop (i + 1) l) (drop (i + 1) m)
-  unfolding are_same
-  same_on h k e = rw (add-one, drop-cons l i 0 h, drop-cons m i 0 k, eq-eqb (get_or l i 0) (get_or m i 0) e)
-
-  pub same_off : i < length l → i < length m → get_or l i 0 ≢ get_or m i 0 → are_same (drop i l) (drop i m) ≡ false
-  unfolding are_same
-  same_off h k d = rw (drop-cons l i 0 h, drop-cons m i 0 k, ne_eqb (get_or l i 0) (get_or m i 0) d)
-
-  pub same_out : length l ≤ i → length m ≤ i → are_same (drop i l) (drop i m) ≡ true
-  unfolding are_same
-  same_out h k = rw (drop_of_length-le l {i = i} h, drop_of_length-le m {i = i} k)
-
--- ---- a number: more digits never make it smaller
+-- more digits never make it smaller
 pub value_least : (v : ℕ) (l : List ℕ) → v ≤ value_behind v l
 value_least v [] = omega arith
 value_least v (c ∷ l) = let r = value_least (10 * v + (c - 48)) l in omega (arith, r)
@@ -105,23 +144,54 @@ module _ (most : ℕ) (w : List ℕ) where
   unfolding number_in is_number
   number_good d e h = rw (ne_eqb (length w) 0 d, e, le-leb (value_behind 0 w) most h)
 
--- all but the first
-pub tail_all : (w : List ℕ) → take (length w - 1) (drop 1 w) ≡ drop 1 w
-tail_all w = take_all (length w - 1) (drop 1 w) (omega (arith, length-drop 1 w))
+-- ---- a number that is to be smaller
+module _ (most : ℕ) (w : List ℕ) (small : most ≤ 4294967295) where
+  pub narrow_none : not_one ≡ number_in 4294967295 w → not_one ≡ number_in most w
+  unfolding number_in is_number
+  narrow_none e = go (length w isn't 0 && are_digits w) (leb (value_behind 0 w) 4294967295) refl e
+    where
+      go : (b g : Bool) → leb (value_behind 0 w) 4294967295 ≡ g
+          → not_one ≡ (if b && g then one (value_behind 0 w) else not_one)
+          → not_one ≡ (if b && leb (value_behind 0 w) most then one (value_behind 0 w) else not_one)
+      go false g f e = refl
+      go true true f e = let never = ap (λ (a : Argument). a.right) e in cc
+      go true false f e =
+          let over = leb-false (value_behind 0 w) 4294967295 f in
+          rw (lt-leb (value_behind 0 w) most (omega arith))
 
--- ---- words by places: from `at` on the blanks end at one place, and the first word at another
-module _ (l : List ℕ) (at from to : ℕ) (e : from ≡ at + blanks (drop at l))
-    (f : to ≡ from + letters (drop from l)) where
-  pub trimmed_at : trimmed (drop at l) ≡ drop from l
-  trimmed_at = drop-drop (blanks (drop at l)) at l ∙ rw (← e)
+  pub narrow_some : {E : Type 0} (r : Result ℕ E) (v : ℕ) → one v ≡ number_in 4294967295 w
+      → OkIff r (v < most + 1) v → argument_from (result_ok r) ≡ number_in most w
+  unfolding number_in is_number
+  narrow_some {E = E} r v e ok = go (length w isn't 0 && are_digits w) (leb (value_behind 0 w) 4294967295) e r ok
+    where
+      go : (b g : Bool) → one v ≡ (if b && g then one (value_behind 0 w) else not_one)
+          → (r : Result ℕ E) → OkIff r (v < most + 1) v
+          → argument_from (result_ok r)
+          ≡ (if b && leb (value_behind 0 w) most then one (value_behind 0 w) else not_one)
+      go false g e r ok = let never = ap (λ (a : Argument). a.right) e in cc
+      go true false e r ok = let never = ap (λ (a : Argument). a.right) e in cc
+      go true true e (Ok x) ok =
+          let same = ap (λ (a : Argument). a.value) e in
+          let least : value_behind 0 w ≤ most = omega (arith, same, ok.0) in
+          rw (le-leb (value_behind 0 w) most least, ok.1) e
+      go true true e (Err x) ok =
+          let same = ap (λ (a : Argument). a.value) e in
+          let over : most < value_behind 0 w = omega (arith, same, ok) in
+          rw (lt-leb (value_behind 0 w) most over)
 
-  pub word_at : take (to - from) (drop from l) ≡ first_word (drop at l)
-  word_at =
-      let g : to - from ≡ letters (drop from l) = omega (arith, f) in
-      rw (g, trimmed_at)
+-- ---- a word behind one byte
+pub prefix_is : (w : List ℕ) (c : ℕ) → pointwise eqb (take 1 w) (suc c ∷ []) ≡ eqb (get_or w 0 0) (suc c)
+prefix_is [] c = sym (ne_eqb 0 (suc c) (λ e. absurd (omega arith)))
+prefix_is (d ∷ l) c = and-true _
 
-  pub behind_at : drop to l ≡ behind (drop at l)
-  behind_at = sym (rw trimmed_at (drop-drop (letters (drop from l)) from l ∙ rw (← f)))
-
-  pub word_length : to ≤ length l → length (first_word (drop at l)) ≡ to - from
-  word_length h = rw (← word_at) (length-take-le (to - from) (drop from l) (omega (arith, length-drop from l)))
+-- ---- what is read of a first word by a reader of its sort
+module _ {F : Type 0} {g : Shared F (Bor (List ℕ) × Unit {0}) (Option ℕ)} {f : F} where
+  pub read_is : (sort : Sort) (w : List ℕ) (r : Result ℕ Reason)
+      → ((l : Bor (List ℕ)) (o : Option ℕ) → FnReturns g f (l, tt) o
+      → argument_from o ≡ argument_of (sort_number sort) l.now)
+      → MatchResult r (λ value. FnReturnsAt g f w (Some value)) (λ reason. FnReturnsAt g f w None × (reason ≡ Misfit sort))
+      → MatchResult r (λ value. argument_of (sort_number sort) w ≡ one value)
+      (λ reason. (argument_of (sort_number sort) w ≡ not_one) × (reason_number reason ≡ sort_number sort))
+  read_is sort w (Ok value) reads k = rw (← k.shows) (sym (reads k.shown (Some value) k.says))
+  read_is sort w (Err reason) reads k =
+      (rw (← k.0.shows) (sym (reads k.0.shown None k.0.says)), ap reason_number k.1)

@@ -14,8 +14,8 @@ use Rattle.scenario.specs.SetupItems.{with_processors, with_start, with_task, wi
 use Rattle.scenario.specs.declared.Item.{Item}
 use Rattle.scenario.specs.declared.Item.TheVariants.{Blank, Processors, Start, Task, Resource, Pair, Happens, Block, Wrong}
 use Rattle.scenario.specs.declared.Draft.{Draft}
-use Rattle.scenario.specs.declared.Outcome.TheVariants.{Kept, Written, Faulty, Refused}
-use Rattle.scenario.specs.declared.Taken.{Taken}
+use Rattle.scenario.specs.Outcomes.{Kept, Written, Faulty, Refused}
+use Rattle.scenario.specs.Outcomes.{Taken}
 
 -- ---- what is wrong with an item in its place
 -- the item comes after the set-up's end

@@ -8,7 +8,7 @@ use Rattle.search.specs.Texts.{codes, value_behind}
 use Rattle.input.specs.Kinds.{short, long, arrival, finish, request, completion, passing}
 use Rattle.input.specs.Layout.{byte}
 use Rattle.scenario.specs.Words.{at_sign, said, first_word, behind, word, are_same, is_number}
-use Rattle.scenario.specs.declared.Argument.{Argument}
+use Rattle.scenario.specs.Arguments.{Argument}
 use Rattle.scenario.specs.declared.Item.{Item}
 use Rattle.scenario.specs.declared.Item.TheVariants.{Blank, Processors, Start, Task, Resource, Pair, Happens, Block, Wrong}
 

@@ -1,6 +1,11 @@
+pub mod Arguments
 pub mod Drafts
+pub mod Faults
 pub mod Items
 pub mod Made
+pub mod Named
+pub mod Outcomes
 pub mod Reads
 pub mod SetupItems
+pub mod Takings
 pub mod Words

@@ -14,8 +14,8 @@ use Rattle.scenario.specs.Drafts.{no_draft, taken}
 use Rattle.scenario.specs.declared.Item.{Item}
 use Rattle.scenario.specs.declared.Item.TheVariants.{Blank, Processors, Start, Task, Resource, Pair, Happens, Block, Wrong}
 use Rattle.scenario.specs.declared.Draft.{Draft}
-use Rattle.scenario.specs.declared.Outcome.{Outcome}
-use Rattle.scenario.specs.declared.Outcome.TheVariants.{Kept, Written, Faulty, Refused}
+use Rattle.scenario.specs.Outcomes.{Outcome}
+use Rattle.scenario.specs.Outcomes.{Kept, Written, Faulty, Refused}
 
 -- ---- what items say, in order: a set-up, and events
 -- the set-up after an item

@@ -1,13 +1,13 @@
 // A file in the making: what each item does to it, and the block that it writes, if any.
-ghost use Rattle.std.specs.Prelude.{◌≡◌, ◌<◌, leb};
+ghost use Rattle.std.specs.Prelude.{◌≡◌, ◌≢◌, ◌<◌, leb, MatchResult};
 ghost use Rattle.numbers.specs.Limits.{most_tasks, most_resources, most_pairs};
 ghost use Rattle.blocks.specs.Sizes.{most_events};
 ghost use Rattle.scenario.specs.SetupItems.{with_task, with_resource, with_pair};
 ghost use Rattle.scenario.specs.Drafts.{twice, full, no_events, adding, no_draft, sized_by, started_at, with_setup, settled, setup_ends, block_ends, event_taken, block_taken, taken};
-ghost use Rattle.scenario.specs.Drafts as spec;
+ghost use Rattle.scenario.specs.Takings.{kept_from, taken_from};
 
-use crate::setup_items::{with_pair, with_processors, with_resource, with_start, with_task};
-use crate::{Draft, Item, Outcome, Taken};
+use crate::setup_items::{with_pair, with_resource, with_task};
+use crate::{Draft, Item, Reason, Taken, Trouble};
 use input::{Event, Setup};
 use writer::Events;
 
@@ -27,9 +27,8 @@ fn with_event(events: Events, e: Event) -> Events
     ensures { result ≡ adding e events }
 {
     let mut next = events;
-    let n = events.count;
-    next.of[n] = e;
-    next.count = n + 1;
+    next.of[events.count] = e;
+    next.count += 1;
     next
 }
 
@@ -46,192 +45,159 @@ pub fn begin() -> Draft
     }
 }
 
-// The item is kept, and nothing is written.
-fn kept(next: Draft) -> Taken
-    ensures { result ≡ spec.kept next }
-{
-    Taken {
-        draft: next,
-        outcome: Outcome::Kept,
-    }
-}
-
-// Something is wrong with the item, and the draft stays as it was.
-fn faulty(draft: Draft, reason: u8) -> Taken
-    ensures { result ≡ spec.faulty draft reason }
-{
-    Taken {
-        draft,
-        outcome: Outcome::Faulty(reason),
-    }
-}
-
-// The draft with another set-up.
-fn with_setup(draft: Draft, setup: Setup) -> Draft
-    ensures { result ≡ with_setup draft setup }
-{
-    let mut next = draft;
-    next.setup = setup;
-    next
-}
-
-// The draft with block `index` begun, and these events in it.
-fn filling(draft: Draft, index: u64, events: Events) -> Draft
-    ensures { result ≡ spec.filling draft index events }
-{
-    let mut next = draft;
-    next.index = index;
-    next.events = events;
-    next
-}
-
-// ---- the items of the set-up
-// An item of the set-up, after which the draft is `next`. It is faulty after the set-up's end, and, for `reason`,
-// where `bars` holds.
-fn settle(draft: Draft, reason: u8, bars: bool, next: Draft) -> Taken
-    ensures { result ≡ settled draft reason bars next }
+// ---- the items of the set-up: each fills fields of its own by a rule of its own, so that one function for several
+// would take both as closures, and be no plainer
+// The draft's set-up, which is open until the first event or `block`.
+fn open_setup(draft: &Draft) -> Result<Setup, Reason>
+    ensures { MatchResult result (λ setup. (draft.now.index ≡ 0) × (setup ≡ draft.now.setup))
+        (λ reason. (draft.now.index ≢ 0) × (reason ≡ Reason.Late)) }
 {
     if draft.index != 0 {
-        return faulty(draft, Item::LATE);
+        return Err(Reason::Late);
     }
-    if bars {
-        return faulty(draft, reason);
-    }
-    kept(next)
+    Ok(draft.setup)
 }
 
 // The processors, which come once.
-fn take_processors(draft: Draft, n: u32) -> Taken
-    ensures { result ≡ settled draft twice draft.sized (sized_by draft n) }
+#[tactic(auto, unfolding(crate::specs::Drafts::settled))]
+fn take_processors(draft: Draft, n: u32) -> Result<Draft, Reason>
+    ensures { kept_from draft result ≡ settled draft twice draft.sized (sized_by draft n) }
 {
-    let mut next = with_setup(draft, with_processors(draft.setup, n as usize));
-    next.sized = true;
-    settle(draft, Item::TWICE, draft.sized, next)
+    let mut setup = open_setup(&draft)?;
+    if draft.sized {
+        return Err(Reason::Twice);
+    }
+    setup.processors = n as usize;
+    Ok(Draft {
+        setup,
+        sized: true,
+        ..draft
+    })
 }
 
 // The start, which comes at most once.
-fn take_start(draft: Draft, start: u32) -> Taken
-    ensures { result ≡ settled draft twice draft.started (started_at draft start) }
+#[tactic(auto, unfolding(crate::specs::Drafts::settled))]
+fn take_start(draft: Draft, start: u32) -> Result<Draft, Reason>
+    ensures { kept_from draft result ≡ settled draft twice draft.started (started_at draft start) }
 {
-    let mut next = with_setup(draft, with_start(draft.setup, start));
-    next.started = true;
-    settle(draft, Item::TWICE, draft.started, next)
+    let mut setup = open_setup(&draft)?;
+    if draft.started {
+        return Err(Reason::Twice);
+    }
+    setup.start = start;
+    Ok(Draft {
+        setup,
+        started: true,
+        ..draft
+    })
 }
 
 // One task more.
-fn take_task(draft: Draft, period: u16) -> Taken
-    ensures { result ≡ settled draft full (leb most_tasks draft.setup.tasks)
+#[tactic(auto, unfolding(crate::specs::Drafts::settled))]
+fn take_task(draft: Draft, period: u16) -> Result<Draft, Reason>
+    ensures { kept_from draft result ≡ settled draft full (leb most_tasks draft.setup.tasks)
         (with_setup draft (with_task draft.setup period)) }
 {
-    let setup = draft.setup;
-    let next = with_setup(draft, with_task(setup, period));
-    settle(draft, Item::FULL, Setup::TASKS <= setup.tasks, next)
+    let setup = with_task(open_setup(&draft)?, period)?;
+    Ok(Draft { setup, ..draft })
 }
 
 // One resource more.
-fn take_resource(draft: Draft, kind: u8) -> Taken
-    ensures { result ≡ settled draft full (leb most_resources draft.setup.resources)
+#[tactic(auto, unfolding(crate::specs::Drafts::settled))]
+fn take_resource(draft: Draft, kind: u8) -> Result<Draft, Reason>
+    ensures { kept_from draft result ≡ settled draft full (leb most_resources draft.setup.resources)
         (with_setup draft (with_resource draft.setup kind)) }
 {
-    let setup = draft.setup;
-    let next = with_setup(draft, with_resource(setup, kind));
-    settle(draft, Item::FULL, Setup::RESOURCES <= setup.resources, next)
+    let setup = with_resource(open_setup(&draft)?, kind)?;
+    Ok(Draft { setup, ..draft })
 }
 
 // One pair more.
-fn take_pair(draft: Draft, outer: u8, inner: u8) -> Taken
-    ensures { result ≡ settled draft full (leb most_pairs draft.setup.pairs)
+#[tactic(auto, unfolding(crate::specs::Drafts::settled))]
+fn take_pair(draft: Draft, outer: u8, inner: u8) -> Result<Draft, Reason>
+    ensures { kept_from draft result ≡ settled draft full (leb most_pairs draft.setup.pairs)
         (with_setup draft (with_pair draft.setup outer inner)) }
 {
-    let setup = draft.setup;
-    let next = with_setup(draft, with_pair(setup, outer, inner));
-    settle(draft, Item::FULL, Setup::PAIRS <= setup.pairs, next)
+    let setup = with_pair(open_setup(&draft)?, outer, inner)?;
+    Ok(Draft { setup, ..draft })
 }
 
 // ---- the blocks
-// The writer's answer to a block: it is written, and the draft is `next`; or it is refused, and the draft stays as it
-// was.
-fn answered(draft: Draft, next: Draft, number: u8) -> Taken
-    ensures { result ≡ spec.answered draft next number }
-{
-    if number == 0 {
-        Taken {
-            draft: next,
-            outcome: Outcome::Written,
-        }
-    } else {
-        Taken {
-            draft,
-            outcome: Outcome::Refused(number),
-        }
-    }
-}
-
 // The set-up ends, and block 1 begins with these events.
-fn end_setup(draft: Draft, events: Events, out: &mut [u8]) -> Taken
-    ensures { (result, out.new) ≡ setup_ends draft events out.old }
+#[tactic(auto, unfolding(crate::specs::Drafts::setup_ends, crate::specs::Drafts::answered))]
+fn end_setup(draft: Draft, events: Events, out: &mut [u8]) -> Result<Taken, Trouble>
+    ensures { (taken_from draft result, out.new) ≡ setup_ends draft events out.old }
 {
-    if draft.sized {
-        let number = writer::write_setup(draft.setup, out);
-        return answered(draft, filling(draft, 1, events), number);
+    if !draft.sized {
+        return Err(Trouble::from(Reason::Missing));
     }
-    faulty(draft, Item::MISSING)
+    writer::write_setup(draft.setup, out)?;
+    Ok(Taken::Written(Draft {
+        index: 1,
+        events,
+        ..draft
+    }))
 }
 
 // A block of events ends, and the next one begins with these.
-fn end_block(draft: Draft, events: Events, out: &mut [u8]) -> Taken
-    ensures { (result, out.new) ≡ block_ends draft events out.old }
+#[tactic(auto, unfolding(crate::specs::Drafts::block_ends, crate::specs::Drafts::answered))]
+fn end_block(draft: Draft, events: Events, out: &mut [u8]) -> Result<Taken, Trouble>
+    ensures { (taken_from draft result, out.new) ≡ block_ends draft events out.old }
 {
-    let index = draft.index;
-    let number = writer::write_events(draft.events, index, out);
-    if number != 0 {
-        return answered(draft, draft, number);
-    }
+    writer::write_events(draft.events, draft.index, out)?;
     // The index of a written block is within its limit, so adding 1 does not overflow.
-    answered(draft, filling(draft, index + 1, events), number)
+    Ok(Taken::Written(Draft {
+        index: draft.index + 1,
+        events,
+        ..draft
+    }))
 }
 
 // An event. The first one ends the set-up, and one that finds its block full ends that block.
-fn take_event(draft: Draft, e: Event, out: &mut [u8]) -> Taken
-    ensures { (result, out.new) ≡ event_taken draft e out.old }
+#[tactic(auto, unfolding(crate::specs::Drafts::event_taken))]
+fn take_event(draft: Draft, e: Event, out: &mut [u8]) -> Result<Taken, Trouble>
+    ensures { (taken_from draft result, out.new) ≡ event_taken draft e out.old }
 {
-    let events = draft.events;
     if draft.index == 0 {
         return end_setup(draft, with_event(no_events(), e), out);
     }
-    if Events::MOST <= events.count {
+    if Events::MOST <= draft.events.count {
         return end_block(draft, with_event(no_events(), e), out);
     }
-    kept(filling(draft, draft.index, with_event(events, e)))
+    Ok(Taken::Kept(Draft {
+        events: with_event(draft.events, e),
+        ..draft
+    }))
 }
 
 // The next block begins; one without events is not written.
-fn take_block(draft: Draft, out: &mut [u8]) -> Taken
-    ensures { (result, out.new) ≡ block_taken draft out.old }
+#[tactic(auto, unfolding(crate::specs::Drafts::block_taken))]
+fn take_block(draft: Draft, out: &mut [u8]) -> Result<Taken, Trouble>
+    ensures { (taken_from draft result, out.new) ≡ block_taken draft out.old }
 {
-    let events = draft.events;
     if draft.index == 0 {
         return end_setup(draft, no_events(), out);
     }
-    if events.count == 0 {
-        return kept(draft);
+    if draft.events.count == 0 {
+        return Ok(Taken::Kept(draft));
     }
     end_block(draft, no_events(), out)
 }
 
 // Takes an item. The block that it completes, if any, is written into `out`; otherwise `out` stays as lent.
-pub fn take_item(draft: Draft, item: Item, out: &mut [u8]) -> Taken
-    ensures { (result, out.new) ≡ taken draft item out.old }
+#[tactic(auto, unfolding(crate::specs::Drafts::taken))]
+pub fn take_item(draft: Draft, item: Item, out: &mut [u8]) -> Result<Taken, Trouble>
+    ensures { (taken_from draft result, out.new) ≡ taken draft item out.old }
 {
     match item {
-        Item::Blank => kept(draft),
-        Item::Processors(n) => take_processors(draft, n),
-        Item::Start(start) => take_start(draft, start),
-        Item::Task(period) => take_task(draft, period),
-        Item::Resource(kind) => take_resource(draft, kind),
-        Item::Pair(outer, inner) => take_pair(draft, outer, inner),
+        Item::Blank => Ok(Taken::Kept(draft)),
+        Item::Processors(n) => Ok(Taken::Kept(take_processors(draft, n)?)),
+        Item::Start(start) => Ok(Taken::Kept(take_start(draft, start)?)),
+        Item::Task(period) => Ok(Taken::Kept(take_task(draft, period)?)),
+        Item::Resource(kind) => Ok(Taken::Kept(take_resource(draft, kind)?)),
+        Item::Pair(outer, inner) => Ok(Taken::Kept(take_pair(draft, outer, inner)?)),
         Item::Happens(e) => take_event(draft, e, out),
         Item::Block => take_block(draft, out),
-        Item::Wrong(reason) => faulty(draft, reason),
+        Item::Wrong(reason) => Err(Trouble::Faulty(reason)),
     }
 }

@@ -1,236 +1,187 @@
 // What a line of a scenario holds: its words, and what each of them is.
-ghost use Rattle.std.specs.Prelude.{◌≡◌, ◌+◌, ◌-◌, ◌≤◌, ◌<◌, length, take, drop};
-ghost use Rattle.std.specs.List.{position_or_len};
-ghost use Rattle.search.specs.Words.{◌is◌};
-ghost use Rattle.scenario.specs.Words.{hash, unended_length, said, blanks, letters, are_same, is_blank, is_digit};
-ghost use Rattle.scenario.specs.Items.{most_of, number_in, tick_in, kind_in, argument_of};
-ghost use Rattle.scenario.specs.Items as spec;
-ghost use Rattle.scenario.specs.Reads.{IsRead};
+ghost use Rattle.std.specs.Prelude.{◌≡◌, ℕ, ◌-◌, Bool, true, false, ◌≢◌, eqb, MatchOption, MatchResult, Some, None, length, take, drop};
+ghost use Rattle.std.specs.List.{position_or_len, find};
+ghost use Rattle.std.specs.Fn.{FnReturnsAt};
+ghost use Rattle.std.specs.Option.{option_map};
+ghost use Rattle.std.specs.Cmp.Lexicographic.{pointwise};
+ghost use Rattle.scenario.specs.Words.{said, first_word, behind, is_blank, is_digit};
+ghost use Rattle.scenario.specs.Items.{a_byte, a_period, a_clock, a_tick, a_kind, number_in, tick_in, kind_in};
+ghost use Rattle.scenario.specs.Reads.{argument_from, IsRead, IsEnded};
 
-use crate::{Argument, Form, Read};
+use crate::{Reason, Sort};
 use input::Setup;
 
-// The characters that matter in a line.
-const TAB: u8 = 9;
+// The sign of a remark.
+const HASH: u8 = b'#';
 
-const CARRIAGE_RETURN: u8 = 13;
-
-const SPACE: u8 = 32;
-
-const HASH: u8 = 35;
-
-const AT_SIGN: u8 = 64;
-
-// The length of a line without a carriage return at its end.
-fn unended_length(line: &[u8]) -> usize
-    ensures { (result ≡ unended_length line.now) × (result ≤ length line.now) }
+// A slice up to the first byte that passes, and from that on.
+fn split_at_first<F: Fn(u8) -> bool>(l: &[u8], passes: F) -> (&[u8], &[u8])
+    requires { F.IsAlwaysCallable passes }
+    ensures { (p : ℕ → Bool) → ((c : ℕ) (b : Bool) → F.post passes c b → b ≡ p c) →
+        (result.0.now ≡ take (position_or_len p l.now) l.now) ×
+        (result.1.now ≡ drop (position_or_len p l.now) l.now) }
 {
-    let len = line.len();
-    if len == 0 {
-        return 0;
-    }
-    if line[len - 1] == CARRIAGE_RETURN {
-        return len - 1;
-    }
-    len
+    let at = l.iter().position(|c| passes(*c)).unwrap_or(l.len());
+    l.split_at(at)
 }
 
 // How much of a line is read: all before its remark, without a carriage return at its end.
-pub fn said_length(line: &[u8]) -> usize
-    ensures { (take result line.now ≡ said line.now) × (result ≤ length line.now) }
+pub fn said(line: &[u8]) -> &[u8]
+    ensures { result.now ≡ said line.now }
 {
-    let len = unended_length(line);
-    hash_before(line, len)
-}
-
-// The first place before `len` that holds the sign of a remark, or `len`.
-fn hash_before(line: &[u8], len: usize) -> usize
-    requires { len ≤ length line.now }
-    ensures { result ≡ position_or_len (λ c. c is hash) (take len line.now) }
-{
-    for i in 0..len {
-        if line[i] == HASH {
-            return i;
-        }
-    }
-    len
+    let unended = line.strip_suffix(b"\r").unwrap_or(line);
+    split_at_first(unended, |c| c == HASH).0
 }
 
 // A space or a tab.
 fn is_blank(c: u8) -> bool
     ensures { result ≡ is_blank c }
 {
-    (c == SPACE) | (c == TAB)
+    c == b' ' || c == b'\t'
 }
 
-// Where the blanks from a place on end.
-pub fn blanks_end(l: &[u8], from: usize) -> usize
-    requires { from ≤ length l.now }
-    ensures { (result ≡ from + blanks (drop from l.now)) × (result ≤ length l.now) }
+// The first word, and what stands behind it.
+pub fn first_word(l: &[u8]) -> (&[u8], &[u8])
+    ensures word { result.0.now ≡ first_word l.now }
+    ensures rest { result.1.now ≡ behind l.now }
 {
-    let mut i = from;
-    while i < l.len() {
-        if !is_blank(l[i]) {
-            return i;
-        }
-        i += 1;
-    }
-    i
+    let (_, trimmed) = split_at_first(l, |c| !is_blank(c));
+    split_at_first(trimmed, is_blank)
 }
 
-// Where the word from a place on ends.
-pub fn word_end(l: &[u8], from: usize) -> usize
-    requires { from ≤ length l.now }
-    ensures { (result ≡ from + letters (drop from l.now)) × (result ≤ length l.now) }
+// The value of a decimal digit.
+fn digit_in(c: u8) -> Option<u32>
+    ensures { MatchOption result (is_digit c ≡ false) (λ d. (is_digit c ≡ true) × (d ≡ c - 48)) }
 {
-    let mut i = from;
-    while i < l.len() {
-        if is_blank(l[i]) {
-            return i;
-        }
-        i += 1;
+    if c.is_ascii_digit() {
+        Some(u32::from(c - b'0'))
+    } else {
+        None
     }
-    i
 }
 
-// Whether a word is this name.
-pub fn is_word(word: &[u8], name: &[u8]) -> bool
-    ensures { result ≡ are_same word.now name.now }
+// A word as a number of four bytes. It has digits only, so no sign.
+fn number_in(word: &[u8]) -> Option<u32>
+    ensures { argument_from result ≡ number_in 4294967295 word.now }
 {
-    if word.len() != name.len() {
-        return false;
+    if word.is_empty() {
+        return None;
     }
-    let mut i = 0;
-    while i < word.len() {
-        if word[i] != name[i] {
-            return false;
-        }
-        i += 1;
+    let mut value = 0u32;
+    for c in word {
+        value = value.checked_mul(10)?.checked_add(digit_in(*c)?)?;
     }
-    true
+    Some(value)
 }
 
-// A word that is not of its sort.
-const NOT_ONE: Argument = Argument {
-    right: false,
-    value: 0,
-};
-
-// A decimal digit.
-fn is_digit(c: u8) -> bool
-    ensures { result ≡ is_digit c }
+// A word as a number of one byte. One function for this and the next, over any `T: TryFrom<u32>`, would need a contract
+// with a case for each answer of a conversion, longer than both.
+fn byte_in(word: &[u8]) -> Option<u8>
+    ensures { argument_from result ≡ number_in 255 word.now }
 {
-    (b'0' <= c) & (c <= b'9')
+    u8::try_from(number_in(word)?).ok()
 }
 
-// The value of a digit.
-fn digit_value(c: u8) -> u64
-    ensures { (result ≡ c - 48) × (result < 256) }
+// A word as a number of two bytes.
+fn period_in(word: &[u8]) -> Option<u16>
+    ensures { argument_from result ≡ number_in 65535 word.now }
 {
-    if c < b'0' { 0 } else { (c - b'0') as u64 }
+    u16::try_from(number_in(word)?).ok()
 }
 
-// The largest value of a sort.
-fn most_of(sort: u8) -> u32
-    ensures { result ≡ most_of sort }
+// A word as a tick: `@` and a number of two bytes.
+fn tick_in(word: &[u8]) -> Option<u16>
+    ensures { argument_from result ≡ tick_in word.now }
 {
-    if sort == Form::BYTE {
-        return 255;
-    }
-    if (sort == Form::PERIOD) | (sort == Form::TICK) {
-        return 65535;
-    }
-    if sort == Form::CLOCK {
-        return 4294967295;
-    }
-    if sort == Form::KIND {
-        return Setup::LONG as u32;
-    }
-    0
+    period_in(word.strip_prefix(b"@")?)
 }
 
-// A word as a number up to a limit. Past the limit no further digit makes it smaller, so the rest is not read.
-fn number_in(word: &[u8], most: u32) -> Argument
-    ensures { result ≡ number_in most word.now }
+// What stands beside a word in a table; none where no row has the word.
+pub fn beside<T: Copy>(rows: &[(&[u8], T)], word: &[u8]) -> Option<T>
+    ensures { result ≡ option_map (λ row. row.1) (find (λ row. pointwise eqb word.now row.0.now) rows.now) }
 {
-    if word.len() == 0 {
-        return NOT_ONE;
-    }
-    let mut value = 0u64;
-    let mut i = 0;
-    while i < word.len() {
-        let c = word[i];
-        if !is_digit(c) {
-            return NOT_ONE;
-        }
-        value = 10 * value + digit_value(c);
-        if (most as u64) < value {
-            return NOT_ONE;
-        }
-        i += 1;
-    }
-    Argument {
-        right: true,
-        value: value as u32,
-    }
+    rows.iter().find(|row| word == row.0).map(|row| row.1)
 }
 
-// A word that is of its sort, with its value.
-fn one(value: u32) -> Argument
-    ensures { result ≡ spec.one value }
-{
-    Argument { right: true, value }
-}
-
-// A word as a tick: `@` and a number.
-fn tick_in(word: &[u8]) -> Argument
-    ensures { result ≡ tick_in word.now }
-{
-    if word.len() == 0 {
-        return NOT_ONE;
-    }
-    if word[0] != AT_SIGN {
-        return NOT_ONE;
-    }
-    number_in(&word[1..], most_of(Form::TICK))
-}
+// The kinds of resource, by their words.
+const KINDS: [(&'static [u8], u8); 2] = [(b"short", Setup::SHORT), (b"long", Setup::LONG)];
 
 // A word as a kind of resource.
-fn kind_in(word: &[u8]) -> Argument
-    ensures { result ≡ kind_in word.now }
+fn kind_in(word: &[u8]) -> Option<u8>
+    ensures { argument_from result ≡ kind_in word.now }
 {
-    if is_word(word, b"short") {
-        return one(Setup::SHORT as u32);
-    }
-    if is_word(word, b"long") {
-        return one(Setup::LONG as u32);
-    }
-    NOT_ONE
+    beside(&KINDS, word)
 }
 
-// A word as one of a sort.
-fn argument_of(sort: u8, word: &[u8]) -> Argument
-    ensures { result ≡ argument_of sort word.now }
-{
-    if sort == Form::NO_MORE {
-        return if word.len() == 0 { one(0) } else { NOT_ONE };
-    }
-    if sort == Form::TICK {
-        return tick_in(word);
-    }
-    if sort == Form::KIND {
-        return kind_in(word);
-    }
-    number_in(word, most_of(sort))
+// The words of a line that are left to read.
+#[derive(Drop)]
+pub struct Words<'a> {
+    pub rest: &'a [u8],
 }
 
-// The first word from a place on, as one of a sort, and the place where it ends.
-pub fn read_argument(l: &[u8], at: usize, sort: u8) -> Read
-    requires { at ≤ length l.now }
-    ensures { IsRead l.now at sort result }
-{
-    let from = blanks_end(l, at);
-    let to = word_end(l, from);
-    let argument = argument_of(sort, &l[from..to]);
-    Read { argument, end: to }
+impl<'a> Words<'a> {
+    // The first word by `read`; or the reason that it is not of its sort. It is left to read no more.
+    fn next<T, F: Fn(&[u8]) -> Option<T>>(&mut self, sort: Sort, read: F) -> Result<T, Reason>
+        requires { F.IsAlwaysCallable read }
+        ensures word { MatchResult result
+            (λ value. FnReturnsAt F.Fn read (first_word self.old.rest.now) (Some value))
+            (λ reason. FnReturnsAt F.Fn read (first_word self.old.rest.now) None × (reason ≡ Reason.Misfit sort)) }
+        ensures rest { self.new.rest.now ≡ behind self.old.rest.now }
+    {
+        let (word, rest) = first_word(self.rest);
+        self.rest = rest;
+        read(word).ok_or(Reason::Misfit(sort))
+    }
+
+    // A number of one byte.
+    pub fn byte(&mut self) -> Result<u8, Reason>
+        ensures word { IsRead a_byte self.old.rest.now result }
+        ensures rest { self.new.rest.now ≡ behind self.old.rest.now }
+    {
+        self.next(Sort::Byte, byte_in)
+    }
+
+    // A number of two bytes.
+    pub fn period(&mut self) -> Result<u16, Reason>
+        ensures word { IsRead a_period self.old.rest.now result }
+        ensures rest { self.new.rest.now ≡ behind self.old.rest.now }
+    {
+        self.next(Sort::Period, period_in)
+    }
+
+    // A number of four bytes.
+    pub fn clock(&mut self) -> Result<u32, Reason>
+        ensures word { IsRead a_clock self.old.rest.now result }
+        ensures rest { self.new.rest.now ≡ behind self.old.rest.now }
+    {
+        self.next(Sort::Clock, number_in)
+    }
+
+    // `@` and a number of two bytes.
+    pub fn tick(&mut self) -> Result<u16, Reason>
+        ensures word { IsRead a_tick self.old.rest.now result }
+        ensures rest { self.new.rest.now ≡ behind self.old.rest.now }
+    {
+        self.next(Sort::Tick, tick_in)
+    }
+
+    // `short` or `long`.
+    pub fn kind(&mut self) -> Result<u8, Reason>
+        ensures word { IsRead a_kind self.old.rest.now result }
+        ensures rest { self.new.rest.now ≡ behind self.old.rest.now }
+    {
+        self.next(Sort::Kind, kind_in)
+    }
+
+    // No word more.
+    #[tactic(auto, unfolding(crate::specs::Items::argument_of))]
+    pub fn end(&self) -> Result<(), Reason>
+        ensures { IsEnded self.now.rest.now result }
+    {
+        if first_word(self.rest).0.is_empty() {
+            Ok(())
+        } else {
+            Err(Reason::Misfit(Sort::NoMore))
+        }
+    }
 }

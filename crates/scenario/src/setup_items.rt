@@ -1,67 +1,51 @@
-// What an item adds to a set-up; where there is no room for it, the set-up stays as it is.
-ghost use Rattle.std.specs.Prelude.{◌≡◌, ◌<◌};
+// What an item adds to a set-up, unless its table is full.
+ghost use Rattle.std.specs.Prelude.{◌≡◌, ◌<◌, ◌≤◌, ◌+◌, MatchResult, length, slice_set};
 ghost use Rattle.numbers.specs.Limits.{most_tasks, most_resources, most_pairs};
-ghost use Rattle.scenario.specs.SetupItems.{with_processors, with_start, with_task, with_resource, with_pair};
+ghost use Rattle.scenario.specs.SetupItems.{with_task, with_resource, with_pair};
 
+use crate::Reason;
 use input::Setup;
 
-// The set-up with `n` processors.
-pub fn with_processors(setup: Setup, n: usize) -> Setup
-    ensures { result ≡ with_processors setup n }
+// Puts one more into a table that holds `count`; returns how many it holds then.
+pub fn put<T: Copy>(table: &mut [T], count: usize, one: T) -> Result<usize, Reason>
+    ensures { MatchResult result
+        (λ more. (count < length table.old) × (more ≡ count + 1) × (table.new ≡ slice_set table.old count one))
+        (λ reason. (length table.old ≤ count) × (reason ≡ Reason.Full) × (table.new ≡ table.old)) }
 {
-    let mut next = setup;
-    next.processors = n;
-    next
-}
-
-// The set-up with another start.
-pub fn with_start(setup: Setup, start: u32) -> Setup
-    ensures { result ≡ with_start setup start }
-{
-    let mut next = setup;
-    next.start = start;
-    next
+    if table.len() <= count {
+        return Err(Reason::Full);
+    }
+    table[count] = one;
+    Ok(count + 1)
 }
 
 // The set-up with one task more.
-pub fn with_task(setup: Setup, period: u16) -> Setup
-    ensures { setup.tasks < most_tasks → result ≡ with_task setup period }
+pub fn with_task(setup: Setup, period: u16) -> Result<Setup, Reason>
+    ensures { MatchResult result (λ next. (setup.tasks < most_tasks) × (next ≡ with_task setup period))
+        (λ reason. (most_tasks ≤ setup.tasks) × (reason ≡ Reason.Full)) }
 {
     let mut next = setup;
-    let t = setup.tasks;
-    if Setup::TASKS <= t {
-        return setup;
-    }
-    next.periods[t] = period;
-    next.tasks = t + 1;
-    next
+    next.tasks = put(&mut next.periods, setup.tasks, period)?;
+    Ok(next)
 }
 
 // The set-up with one resource more.
-pub fn with_resource(setup: Setup, kind: u8) -> Setup
-    ensures { setup.resources < most_resources → result ≡ with_resource setup kind }
+pub fn with_resource(setup: Setup, kind: u8) -> Result<Setup, Reason>
+    ensures { MatchResult result (λ next. (setup.resources < most_resources) × (next ≡ with_resource setup kind))
+        (λ reason. (most_resources ≤ setup.resources) × (reason ≡ Reason.Full)) }
 {
     let mut next = setup;
-    let r = setup.resources;
-    if Setup::RESOURCES <= r {
-        return setup;
-    }
-    next.kinds[r] = kind;
-    next.resources = r + 1;
-    next
+    next.resources = put(&mut next.kinds, setup.resources, kind)?;
+    Ok(next)
 }
 
 // The set-up with one pair more.
-pub fn with_pair(setup: Setup, outer: u8, inner: u8) -> Setup
-    ensures { setup.pairs < most_pairs → result ≡ with_pair setup outer inner }
+pub fn with_pair(setup: Setup, outer: u8, inner: u8) -> Result<Setup, Reason>
+    ensures { MatchResult result (λ next. (setup.pairs < most_pairs) × (next ≡ with_pair setup outer inner))
+        (λ reason. (most_pairs ≤ setup.pairs) × (reason ≡ Reason.Full)) }
 {
     let mut next = setup;
-    let i = setup.pairs;
-    if Setup::PAIRS <= i {
-        return setup;
-    }
-    next.outer[i] = outer;
-    next.inner[i] = inner;
-    next.pairs = i + 1;
-    next
+    put(&mut next.outer, setup.pairs, outer)?;
+    next.pairs = put(&mut next.inner, setup.pairs, inner)?;
+    Ok(next)
 }

@@ -3,7 +3,7 @@
 #![tactic(auto)]
 
 use blocks::Block;
-use pages::{Page, Session};
+use pages::{Engine, Page, Session};
 use std::env::Env;
 use std::io;
 use std::io::{ErrorKind, Read};
@@ -13,7 +13,7 @@ use std::process::ExitCode;
 const PLAIN: [u8; 7] = *b"--plain";
 
 // Why the work ended before the output did: a read or a write failed, or nobody reads the output any more.
-#[derive(Clone, Copy)]
+#[derive(Clone, Copy, Debug, PartialEq, Eq)]
 enum Failure {
     NotRead,
     NotWritten,
@@ -43,17 +43,21 @@ fn write_page(rt: &(impl Print + Eprint), text: &[u8], session: Session) -> Resu
     Ok(())
 }
 
-// Reads the next block, writes its page, and returns the session after it. A short block is the last one.
+// Reads the next block, writes its page, and returns the session after it. A short block is the last one. The buffer is
+// long enough for any page.
 fn take_block(
     rt: &(impl Print + Eprint),
     input: &mut impl Read,
     session: Session,
     block: &mut [u8],
     out: &mut [u8],
-    plain: bool,
+    engine: Engine,
 ) -> Result<Session, Failure> {
     let got = streams::read_full(input, block).map_err(|_| Failure::NotRead)?;
-    let page = pages::next_page(session, &block[..got], out, plain);
+    let page = pages::next_page(session, &block[..got], out, engine).unwrap_or(Page {
+        session,
+        len: 0,
+    });
     write_page(rt, &out[..page.len], page.session)?;
     Ok(page.session)
 }
@@ -62,14 +66,14 @@ fn take_block(
 fn take_blocks(
     rt: &(impl Print + Eprint),
     input: &mut impl Read,
-    plain: bool,
+    engine: Engine,
 ) -> Result<(), Failure> {
     let mut block = [0u8; Block::SIZE];
     let mut out = [0u8; Page::LIMIT];
     let mut session = pages::begin();
     // One block more than a file may have, and the input's end.
     for _ in 0..Block::LAST_INDEX + 3 {
-        session = take_block(rt, input, session, &mut block, &mut out, plain)?;
+        session = take_block(rt, input, session, &mut block, &mut out, engine)?;
         if session.over {
             break;
         }
@@ -87,17 +91,17 @@ fn tell(rt: &impl Eprint, failure: Failure) -> ExitCode {
     ExitCode::SUCCESS
 }
 
-// Whether the plain engine is asked for: the program's first argument is `--plain`.
-fn is_plain_asked(rt: &impl Env) -> bool {
+// The engine that is asked for: the plain one, if the program's first argument is `--plain`.
+fn engine_asked(rt: &impl Env) -> Engine {
     let mut word = [0u8; PLAIN.len() + 1];
     match rt.arg(1, &mut word) {
-        Ok(len) => word[..len] == PLAIN[..],
-        Err(_) => false,
+        Ok(len) if word[..len] == PLAIN[..] => Engine::Plain,
+        _ => Engine::Locking,
     }
 }
 
 fn main(rt: HostRuntime) -> ExitCode {
-    match take_blocks(&rt, &mut rt.reader(), is_plain_asked(&rt)) {
+    match take_blocks(&rt, &mut rt.reader(), engine_asked(&rt)) {
         Ok(()) => ExitCode::SUCCESS,
         Err(failure) => tell(&rt, failure),
     }

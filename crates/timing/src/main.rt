@@ -10,7 +10,7 @@ ghost use Rattle.std.specs.Prelude.{◌≡◌, length};
 ghost use Rattle.blocks.specs.Sizes.{block_size};
 
 use blocks::Block;
-use protocol::{Reply, State};
+use protocol::State;
 use std::io;
 use std::io::Read;
 
@@ -41,14 +41,14 @@ fn read_block(input: &mut impl Read) -> [u8; Block::SIZE]
 
 // The state that the set-up of a block begins with.
 fn begin_from(block: &[u8]) -> State {
-    let part = blocks::used_part(block, blocks::judge_block(block, 0));
-    states::begin(input::setup_from(part)).state
+    let part = blocks::used_part(block, blocks::judge_block(block, 0).ok());
+    states::begin(input::setup_from(part)).unwrap_or(states::empty())
 }
 
 // The state after the events of a block.
 fn play_block(state: State, block: &[u8], index: u64) -> State {
     let mut out = [0u8; Block::MOST_EVENTS as usize * State::SNAPSHOT];
-    let part = blocks::used_part(block, blocks::judge_block(block, index));
+    let part = blocks::used_part(block, blocks::judge_block(block, index).ok());
     locking::play(state, part, &mut out).state
 }
 
@@ -79,10 +79,10 @@ fn make_steps(begun: State, part: &[u8], calls: u64) -> u64 {
             state = begun;
             at = 0;
         }
-        let reply = locking::step(state, input::event_at(part, at));
-        let next = reply.state;
-        accepted = count_if(reply.answer == 0, accepted);
-        state = next;
+        if let Ok(after) = locking::step(state, input::event_at(part, at)) {
+            state = after;
+            accepted = count_if(true, accepted);
+        }
         at = at.wrapping_add(1);
     }
     accepted
@@ -105,43 +105,36 @@ fn alternate(given: u8, call: u64) -> u8 {
     if call % 2 == 0 { given } else { !given }
 }
 
-// Computes the check of a block whose first byte is another one in every second call; returns how often it was the
-// given block's.
-fn make_checks(given: [u8; Block::SIZE], calls: u64) -> u64 {
-    let own = blocks::check_of(&given);
+// Makes calls with a block whose first byte is another one in every second call; returns how many passed.
+fn call_with<F: Fn(&[u8]) -> bool>(given: [u8; Block::SIZE], calls: u64, passes: F) -> u64
+    requires { F.IsAlwaysCallable passes }
+{
     let mut block = given;
     let mut passed = 0;
-    for i in 0..calls {
-        block[0] = alternate(given[0], i);
-        let check = blocks::check_of(&block);
-        let same = (check.first == own.first) & (check.second == own.second);
-        passed = count_if(same, passed);
+    for call in 0..calls {
+        block[0] = alternate(given[0], call);
+        passed = count_if(passes(&block), passed);
     }
     passed
-}
-
-// Judges such a block, at an index; returns how often it was accepted.
-fn make_verdicts(given: [u8; Block::SIZE], index: u64, calls: u64) -> u64 {
-    let mut block = given;
-    let mut accepted = 0;
-    for i in 0..calls {
-        block[0] = alternate(given[0], i);
-        let number = blocks::number_of(blocks::judge_block(&block, index));
-        accepted = count_if(number == 0, accepted);
-    }
-    accepted
 }
 
 // Makes the calls of an order; returns how many of them passed.
 fn follow(what: u8, state: State, block: [u8; Block::SIZE], index: u64, calls: u64) -> u64 {
     match what {
         STEPS => {
-            let part = blocks::used_part(&block, blocks::judge_block(&block, index));
+            let part = blocks::used_part(&block, blocks::judge_block(&block, index).ok());
             make_steps(state, part, calls)
         }
         TESTS => make_tests(state, calls),
-        CHECKS => make_checks(block, calls),
-        VERDICTS => make_verdicts(block, index, calls),
+        CHECKS => {
+            let own = blocks::check_of(&block);
+            call_with(block, calls, |given| blocks::check_of(given) == own)
+        }
+        VERDICTS => call_with(
+            block,
+            calls,
+            |given| blocks::judge_block(given, index).is_ok(),
+        ),
         _ => 0,
     }
 }

@@ -1,27 +1,14 @@
-use native.Mathlib.Omega.{arith}
+use Rattle.std.proofs.Common.{rules}
 use Rattle.lines.specs.Buffers.{event_text}
-use Rattle.lines.proofs.Laws.{put_then, line_narrow, line_put}
-use Rattle.lines.proofs.Lengths.{number_short, byte_short}
+use Rattle.lines.proofs.Lines.{line_wrote}
+use Rattle.lines.proofs.Pens.{wrote_then}
 use Rattle.lines.proofs.of_numbers.places_line.Goals as goal
-
-pub returns-then-out-lt-LIMIT : goal.returns-then-out-lt-LIMIT
-returns-then-out-lt-LIMIT c = rw c.refused.ensures (line_narrow _ _ c.if-out-lt-LIMIT.true)
-
-pub put_number-numbered-requires : goal.put_number-numbered-requires
-put_number-numbered-requires c = omega (arith, number_short c.args.number (omega arith))
-
-pub put_numbered-answered-requires : goal.put_numbered-answered-requires
-put_numbered-answered-requires c = omega (arith, number_short c.args.number (omega arith), byte_short c.byte_at.result (omega arith))
-
-pub put_places-placed-requires : goal.put_places-placed-requires
-put_places-placed-requires c = (omega (arith, c.shown.ensures), omega (arith, number_short c.args.number (omega arith), byte_short c.byte_at.result (omega arith), c.shown.ensures))
-
-pub put_text-len-requires : goal.put_text-len-requires
-put_text-len-requires c = omega (arith, number_short c.args.number (omega arith), byte_short c.byte_at.result (omega arith), c.shown.ensures, c.put_places-placed.ensures.1)
 
 pub returns : goal.returns
 unfolding event_text
 returns c =
-    let answered = rw c.byte_at.ensures at c.put_numbered-answered.ensures in
-    let placed = rw c.shown.ensures at c.put_places-placed.ensures.0 in
-    line_put _ _ c.if-out-lt-LIMIT.false (put_then (put_then (put_then c.put_number-numbered.ensures answered) placed) c.put_text-len.ensures)
+    let start = c.new-pen.ensures in
+    let answered = rw (c.from.ensures, c.byte_at.ensures) at c.put_numbered.ensures.wrote in
+    let placed = rw c.min.ensures at c.put_places.ensures.wrote in
+    line_wrote _ c.in_ok-judge_room.ensures.refused start.unwritten start.at_start
+    (wrote_then (wrote_then (wrote_then c.put_number.ensures.wrote answered) placed) c.put_text.ensures.wrote) (search rules)

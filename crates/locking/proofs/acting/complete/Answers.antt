@@ -15,10 +15,10 @@ returns-then-has_kind c =
 pub returns-else-has_kind : goal.returns-else-has_kind
 unfolding completing
 returns-else-has_kind c =
-    let row = c.row in
+    let row = c.pick in
     let if1 = c.if-has_kind in
     let has-kind = c.has_kind in
     let kind_at = c.kind_at-kind in
     let closed = c.closed-done in
     let h = rw (has-kind.ensures, kind_at.ensures, closed.ensures) at if1.false in
-    rw (row.ensures, c.row-else-has_kind.ensures, c.first.ensures, closed.ensures, kind_at.ensures, h)
+    rw (row.ensures, c.pick-else-has_kind.ensures, c.first.ensures, closed.ensures, kind_at.ensures, h)

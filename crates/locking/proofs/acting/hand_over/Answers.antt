@@ -10,4 +10,4 @@ returns c =
     let asked_of = c.asked_of in
     let with-standing = c.with_standing in
     let without-first = c.without_first-rest in
-    rw (c.row.ensures, c.opened.ensures, asked_of.ensures, with-standing.ensures, without-first.ensures)
+    rw (c.pick.ensures, c.opened.ensures, asked_of.ensures, with-standing.ensures, without-first.ensures)

@@ -21,4 +21,4 @@ returns-else-has_kind-group c =
     let with-standing = c.with_standing-waits in
     let lock-of = c.lock_of in
     let h = rw (has-kind.ensures, kind_at.ensures) at if1.false in
-    rw (h, c.row.ensures, c.append-longer.ensures, with-standing.ensures, lock-of.ensures, kind_at.ensures)
+    rw (h, c.pick.ensures, c.append-longer.ensures, with-standing.ensures, lock-of.ensures, kind_at.ensures)

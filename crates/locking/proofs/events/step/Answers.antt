@@ -1,12 +1,14 @@
--- A part of one event gives the answer and the state of the rule. Assumes nothing.
-use Rattle.std.proofs.Common.{ℕ, List, get_or, refl, ap, ◌∙◌}
-use Rattle.locking.specs.declared.Played.{Played}
-use Rattle.locking.proofs.Along.{one_state, one_answer}
+use Rattle.std.proofs.Common.{◌≡◌, ◌∙◌, arith}
+use Rattle.std.proofs.lemmas.Grind.{common_steps}
+use Rattle.numbers.specs.Answers.{number_of}
+use Rattle.protocol.specs.Replies.{reply_from}
+use Rattle.locking.proofs.Accepted.{refused_reply, step_answer}
 use Rattle.locking.proofs.events.step.Goals as goal
 
-pub returns : goal.returns
-returns c =
+pub returns-in_err-take : goal.returns-in_err-take
+returns-in_err-take c =
     let s = c.args.state in
     let e = c.args.e in
-    let gave = rw c.event_bytes-part.ensures at c.play-played.ensures in
-    rw (ap (λ (x : Played × List ℕ). get_or x.1 0 0) gave ∙ one_answer s e _ refl, ap (λ (x : Played × List ℕ). x.0.state) gave ∙ one_state s e _ refl)
+    let refusal = c.in_err-take.field-0.0 in
+    let same : reply_from s c.from_residual.result ≡ record { answer = number_of refusal; state = s } = grind (arith, common_steps) in
+    rw same (refused_reply s e refusal ((c.in_err-take.ensures s c.begin-session.ensures).0 ∙ step_answer s e))

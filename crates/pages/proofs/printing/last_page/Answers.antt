@@ -5,7 +5,8 @@ use Rattle.pages.proofs.printing.last_page.Goals as goal
 
 pub returns-then-x-eq0 : goal.returns-then-x-eq0
 returns-then-x-eq0 c =
-    rw (eq-eqb _ _ c.if-x-eq0.true) (page_line _ _ c.ended.ensures (omega arith) c.block_line-line.ensures (block_short 0 30 (omega arith) (omega arith)))
+    rw (eq-eqb _ _ c.if-x-eq0.true)
+    (page_line _ _ c.block_line.result c.ended.ensures (omega arith) c.unwrap_or-len.ensures (rw c.from.ensures at c.block_line.ensures) (block_short 0 30 (omega arith) (omega arith)))
 
 pub returns : goal.returns
 returns c =

@@ -15,12 +15,3 @@ loop-i-preserved c =
     let size : snapshot_size * o.i + snapshot_size - snapshot_size * o.i ≡ snapshot_size = omega arith in
     let put = rw (add-one, size) at c.put_event-at.ensures.0 in
     (omega arith, put_more _ o.i o.invariant.1 put, omega (arith, c.put_event-at.ensures.1), omega arith)
-
-pub shape_of-out : goal.shape_of-out
-shape_of-out c = c.loop-i.invariant.3
-
-pub returns : goal.returns
-returns c =
-    let o = c.loop-i in
-    let e : o.i ≡ c.args.count = omega arith in
-    (rw e at o.invariant.1, omega arith)

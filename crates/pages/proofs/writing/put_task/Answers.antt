@@ -10,7 +10,7 @@ returns c =
     let long : length c.args.totals ≡ total_count = search rules in
     let each : (k : ℕ) → Fits w32 (get_or c.args.totals k 0) = search rules in
     let short = totals_short c.args.t c.args.totals c.ranges.t.fits long (λ k. (each k).fits) in
-    put_snapshot c.args.out.now c.args.at _ c.requires short c.totals_line-put.ensures
+    put_snapshot c.totals_line.result c.args.out.now c.args.at _ c.requires short c.unwrap_or.ensures c.totals_line.ensures
 
 pub overflow_add-result : goal.overflow_add-result
 overflow_add-result c = record { fits = omega (arith, (returns c).1) }

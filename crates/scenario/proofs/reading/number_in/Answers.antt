@@ -1,56 +1,53 @@
-use borrow.Author.Rules.{rules}
-use native.Mathlib.Omega.{arith}
-use Prim.Native.Nat.{◌+◌, ◌-◌, ◌*◌, ◌<◌, ◌≤◌}
-use mathlib.Core.Path.{◌≡◌, sym, ◌∙◌}
-use mathlib.Core.Bool.{true, false}
-use lib.ListN.{length, get_or, drop}
-use Rattle.scenario.specs.Words.{is_digit}
+-- A word of digits, whose value fits. Assumes nothing.
+use Rattle.std.proofs.Common.{rules, arith, ◌≡◌, ◌+◌, ◌-◌, ◌*◌, get_or, drop, sym, ◌∙◌}
 use Rattle.scenario.proofs.Words.{digits_on, digits_off, digits_out, value_on, value_out, value_least, number_none, number_undigit, number_large, number_good}
 use Rattle.scenario.proofs.reading.number_in.Goals as goal
 
-pub returns-then-word-eq0 : goal.returns-then-word-eq0
-returns-then-word-eq0 c = sym (number_none c.args.most c.args.word.now (search rules))
+pub returns-then-is_empty : goal.returns-then-is_empty
+returns-then-is_empty c = sym (number_none 4294967295 c.args.word.now (search rules))
 
-pub returns-then-not-is_digit : goal.returns-then-not-is_digit
-returns-then-not-is_digit c =
-    let o = c.loop-i in
+pub returns-in_err-checked_mul : goal.returns-in_err-checked_mul
+returns-in_err-checked_mul c =
+    let o = c.loop-c in
     let w = c.args.word.now in
-    let h : o.i < length w = search rules in
-    let b : is_digit (get_or w o.i 0) ≡ false = sym c.is_digit.ensures ∙ c.if-not-is_digit.true in
-    sym
-    (number_undigit c.args.most w
-    (o.invariant.3 ∙ digits_off w o.i h b))
+    let v = o.invariant.3 ∙ value_on w o.c-index c.loop-c-test.true o.value in
+    let m = value_least (10 * o.value + (get_or w o.c-index 0 - 48)) (drop (o.c-index + 1) w) in
+    rw c.from_residual.ensures (sym (number_large 4294967295 w (omega (arith, c.in_err-checked_mul.ensures))))
 
-pub returns-then-most-value : goal.returns-then-most-value
-returns-then-most-value c =
-    let o = c.loop-i in
+pub returns-in_err-digit_in : goal.returns-in_err-digit_in
+returns-in_err-digit_in c =
+    let o = c.loop-c in
     let w = c.args.word.now in
-    let h : o.i < length w = search rules in
-    let v = o.invariant.4 ∙ value_on w o.i h o.value in
-    let m = value_least (10 * o.value + (get_or w o.i 0 - 48)) (drop (o.i + 1) w) in
-    sym
-    (number_large c.args.most w
-    (omega (arith, v, m, c.digit_value.ensures.0, c.if-most-value.true)))
+    let off = digits_off w o.c-index c.loop-c-test.true c.in_err-digit_in.ensures in
+    rw c.from_residual-in_err-digit_in.ensures (sym (number_undigit 4294967295 w (o.invariant.2 ∙ off)))
 
-pub loop-i-preserved : goal.loop-i-preserved
-loop-i-preserved c =
-    let o = c.loop-i in
+pub returns-in_err-value : goal.returns-in_err-value
+returns-in_err-value c =
+    let o = c.loop-c in
     let w = c.args.word.now in
-    let h : o.i < length w = search rules in
-    let b : is_digit (get_or w o.i 0) ≡ true = sym c.is_digit.ensures ∙ c.if-not-is_digit.false in (
+    let v = o.invariant.3 ∙ value_on w o.c-index c.loop-c-test.true o.value in
+    let m = value_least (10 * o.value + (get_or w o.c-index 0 - 48)) (drop (o.c-index + 1) w) in
+    rw c.from_residual-in_err-value.ensures
+    (sym (number_large 4294967295 w
+    (omega (arith, c.in_err-value.ensures, c.in_ok-checked_mul.ensures, c.in_ok-digit_in.ensures))))
+
+pub loop-c-preserved : goal.loop-c-preserved
+loop-c-preserved c =
+    let o = c.loop-c in
+    let w = c.args.word.now in
+    let next : c.in_ok-value.value ≡ 10 * o.value + (get_or w o.c-index 0 - 48) =
+    omega (arith, c.in_ok-value.ensures, c.in_ok-checked_mul.ensures, c.in_ok-digit_in.ensures) in (
+      o.invariant.0,
       search rules,
-      o.invariant.1,
-      search rules,
-      o.invariant.3 ∙ digits_on w o.i h b,
-      rw c.digit_value.ensures.0 (o.invariant.4 ∙ value_on w o.i h o.value),
+      o.invariant.2 ∙ digits_on w o.c-index c.loop-c-test.true c.in_ok-digit_in.ensures.0,
+      rw next (o.invariant.3 ∙ value_on w o.c-index c.loop-c-test.true o.value),
     )
 
 pub returns : goal.returns
 returns c =
-    let o = c.loop-i in
+    let o = c.loop-c in
     let w = c.args.word.now in
-    let h : length w ≤ o.i = search rules in
-    let v = o.invariant.4 ∙ value_out w o.i h o.value in
+    let v = o.invariant.3 ∙ value_out w o.c-index c.loop-c-test.false o.value in
     rw (← v)
-    (sym (number_good c.args.most w o.invariant.1
-    (o.invariant.3 ∙ digits_out w o.i h) (omega (arith, v))))
+    (sym (number_good 4294967295 w o.invariant.0 (o.invariant.2 ∙ digits_out w o.c-index c.loop-c-test.false)
+    (omega (arith, v))))
