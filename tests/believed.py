@@ -38,7 +38,7 @@ PARTS = {
     },
     'scenarios and their blocks': {
         'writer': 'Sealed Written SetupBlocks EventBlocks',
-        'scenario': 'Words Items SetupItems Drafts',
+        'scenario': 'Words Arguments Items SetupItems Outcomes Drafts',
     },
     'statements': {
         'numbers': 'Numbered',
@@ -61,6 +61,7 @@ PARTS = {
         'protocol': 'Edited',
         'locking': 'Playing',
         'plain': 'Orders Engine',
+        'scenario': 'Faults Takings',
         'lines': 'Buffers StateLines',
         'pages': 'Pages',
     },
@@ -70,7 +71,7 @@ PARTS = {
         'soundness': 'Opens',
         'locking': 'Acting Edits Keeping Ranking Steps Totals',
         'plain': 'Reading',
-        'scenario': 'Reads',
+        'scenario': 'Named Reads',
     },
 }
 BELIEVED = ('rules', 'bytes and texts', 'scenarios and their blocks')

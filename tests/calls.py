@@ -257,7 +257,7 @@ EVENTS_WRITTEN = [
 ]
 
 # What becomes of a scenario's line, and whether a block is written. A faulty line has its reason, as docs/DECISIONS.md
-# and crates/scenario/src/lib.rt number them: 1 unknown; 2 a word too many; 3 no byte, 4 no period, 5 no clock, 6 no
+# and crates/scenario/src/faults.rt number them: 1 unknown; 2 a word too many; 3 no byte, 4 no period, 5 no clock, 6 no
 # tick, 7 no kind; 8 behind the set-up's end, 9 twice, 11 the processors missing.
 KEPT, WRITTEN = 'kept 0', 'written 1'
 
