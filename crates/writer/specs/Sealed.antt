@@ -1,5 +1,5 @@
 -- RULES.md, 'Blocks': a block made of its head, its payload and the check.
-use Rattle.std.specs.Prelude.{ℕ, ◌-◌, ◌%◌, List, [], ◌∷◌, ◌++◌, ltb, get_or, drop, if◌then◌else◌}
+use Rattle.std.specs.Prelude.{ℕ, ◌-◌, ◌%◌, List, [], ◌∷◌, ltb, get_or, if◌then◌else◌}
 use Rattle.search.specs.Table.{table}
 use Rattle.input.specs.Layout.{low, high}
 use Rattle.blocks.specs.Sizes.{payload_at, check_at, block_size, numbers}
@@ -18,10 +18,6 @@ module _ (head payload : List ℕ) where
   -- the byte at place i of the block, before the check: of the head or of the payload
   unfoldable pub body_byte : ℕ → ℕ
   body_byte i = if ltb i payload_at then get_or head i 0 else get_or payload (i - payload_at) 0
-
-  -- a lent block with all before its check written
-  abbrev pub body_into : List ℕ → List ℕ
-  body_into out = table body_byte check_at ++ drop check_at out
 
   -- the check of head and payload
   unfoldable pub check_behind : List ℕ
