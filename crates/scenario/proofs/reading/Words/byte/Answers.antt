@@ -1,4 +1,4 @@
--- Assumes nothing.
+-- A number of one byte is what its reader gives of the first word. Assumes nothing.
 use Rattle.std.proofs.Common.{rules}
 use Rattle.scenario.specs.Words.{first_word}
 use Rattle.scenario.specs.Items.{argument_of, most_of}
