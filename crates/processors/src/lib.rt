@@ -29,7 +29,7 @@ pub type Modes = [u8; Jobs::LIMIT];
 
 // What the scheduler knows of each task's job: its rank, lower for a higher priority, and its mode. Two tables, as the
 // definitions make one list of each (`jobs_from`), and most questions need only one of them.
-#[derive(Clone, Copy)]
+#[derive(Clone, Copy, PartialEq, Eq)]
 pub struct Jobs {
     pub ranks: Ranks,
     pub modes: Modes,
