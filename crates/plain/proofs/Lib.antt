@@ -1,5 +1,4 @@
 pub mod Sorted
-pub mod Counts
 pub mod Readings
 pub mod Placing
 pub mod Sessions
