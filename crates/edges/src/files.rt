@@ -60,7 +60,7 @@ fn go_on(rt: &impl Print, walk: Walk, read: &[u8], index: u64) -> io::Result<Wal
 }
 
 // Reads until the buffer is full or the input ends, and returns how much was read. A read that fails ends it as the
-// input's end does, and what was read before counts.
+// input's end does, and what was read before counts, which `streams::read_full` does not tell.
 fn read_full(input: &mut impl Read, buffer: &mut [u8]) -> usize
     ensures { result ≤ length buffer.new }
 {

@@ -67,7 +67,7 @@ pub fn totals_line(t: u8, totals: [u32; Task::TOTALS], out: &mut [u8]) -> Result
     Ok(pen.at)
 }
 
-// A refused block's line.
+// A refused block's line. As in the next one, any number can be printed, also one that no refusal has.
 pub fn block_line(index: u64, refusal: u8, out: &mut [u8]) -> Result<usize, Refusal>
     ensures { (line_from result, out.new) ≡ block_line out.old index refusal }
 {

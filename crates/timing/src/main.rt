@@ -68,7 +68,7 @@ fn count_if(passed: bool, count: u64) -> u64 {
 }
 
 // Steps through the events of a part, each from the state before it, and after the last one again from the begun
-// state; returns how many were accepted.
+// state; returns how many were accepted. `cycle` would make no call where a part has no events.
 fn make_steps(begun: State, part: &[u8], calls: u64) -> u64 {
     let events = input::event_count(part);
     let mut state = begun;
