@@ -4,7 +4,7 @@
 
 mod answers;
 
-ghost use Rattle.std.specs.Prelude.{◌≡◌, if◌then◌else◌, get_or};
+ghost use Rattle.std.specs.Prelude.{◌≡◌, get_or};
 ghost use Rattle.numbers.specs.Limits.{nothing};
 
 pub use answers::{Refusal, UnknownRefusal, answer_of};
@@ -34,12 +34,4 @@ pub fn number_at(table: &[u8], i: usize) -> u8
     ensures { result ≡ get_or table.now i nothing }
 {
     search::entry(table, i, Limit::NOTHING)
-}
-
-// One row of a list of refusals: `number` where it applies, else what the later rows give. So the code goes through a
-// list from its last row to its first.
-pub fn row(number: u8, applies: bool, later: u8) -> u8
-    ensures { result ≡ (if applies then number else later) }
-{
-    if applies { number } else { later }
 }
