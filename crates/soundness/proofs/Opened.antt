@@ -18,7 +18,7 @@ use Rattle.setups.specs.Naming.{group_of}
 use Rattle.protocol.specs.Words.{absent, spinning, suspended, task, stand, asked, depth, request}
 use Rattle.protocol.specs.Sound.{requests_sound, waiting_sound}
 use Rattle.protocol.specs.declared.State.{State}
-use Rattle.soundness.specs.Opens.{is_held, is_once, is_long, are_together, are_in_right, is_asked, is_queued}
+use Rattle.soundness.specs.Opens.{is_held, is_once, is_long, are_together, opened_sound, is_asked, is_queued}
 
 -- tests that answer alike below a bound
 all_below_same : (n : ℕ) (ok ok' : ℕ → Bool) → ((i : ℕ) → i < n → ok i ≡ ok' i) → all_below n ok ≡ all_below n ok'
@@ -91,7 +91,7 @@ module _ (s : State) (t : ℕ) (long : length (task s t).requests ≡ most_reque
   -- the clauses of the open requests, where `few` says that they are at most eight
   abbrev requests_in : Bool → Bool
   requests_in few =
-      few && are_in_right s t (opened s t) && (stand s t is absent implies (task s t).depth is 0)
+      few && opened_sound s t (opened s t) && (stand s t is absent implies (task s t).depth is 0)
 
   pub requests_read : requests_sound s.setup s t ≡ requests_in (leb (task s t).depth most_requests)
   unfolding requests_sound depth request group_of

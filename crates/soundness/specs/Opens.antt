@@ -47,8 +47,8 @@ module _ (s : State) where
 
   -- the open requests of task t are of resources in the table, whose groups t holds; they are distinct, longs before
   -- shorts, those of one kind in one group
-  abbrev pub are_in_right : ℕ → List ℕ → Bool
-  are_in_right t opened =
+  abbrev pub opened_sound : ℕ → List ℕ → Bool
+  opened_sound t opened =
       all_below (length opened) (λ i. is_held t (get_or opened i nothing)) && all_below (length opened) (is_once opened)
       && all_below (length opened) (is_in_order opened)
       && all_below (length opened) (λ i. is_together opened (get_or opened i nothing))

@@ -6,7 +6,7 @@ ghost use Rattle.numbers.specs.Limits.{most_tasks, nothing};
 ghost use Rattle.input.specs.Words.{kind as kind_of};
 ghost use Rattle.protocol.specs.Sound.{requests_sound, waiting_sound};
 ghost use Rattle.soundness.specs.Opens.{is_held, is_once, is_long, are_long, is_in_order, are_together, is_together};
-ghost use Rattle.soundness.specs.Opens.{are_in_right, is_asked, is_queued, has_room};
+ghost use Rattle.soundness.specs.Opens.{opened_sound, is_asked, is_queued, has_room};
 
 use crate::named::{Named, opened_by};
 use input::Setup;
@@ -94,9 +94,9 @@ impl Named<'_> {
         opened.iter().all(|a| self.is_together(opened, *a))
     }
 
-    // The clauses of the open requests of task `t`, one by one and together.
-    fn are_in_right(&self, t: u8, opened: &[u8]) -> bool
-        ensures { result ≡ are_in_right self.now.state.now t opened.now }
+    // The clauses of the open requests of task `t`, but for their number.
+    fn opened_hold(&self, t: u8, opened: &[u8]) -> bool
+        ensures { result ≡ opened_sound self.now.state.now t opened.now }
     {
         self.all_held(t, opened)
             && all_once(opened)
@@ -111,7 +111,7 @@ impl Named<'_> {
     {
         let task = self.task(t);
         task.depth <= Task::REQUESTS
-            && self.are_in_right(t, opened_by(&task))
+            && self.opened_hold(t, opened_by(&task))
             && (self.stand(t) != Task::ABSENT || task.depth == 0)
     }
 
