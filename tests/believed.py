@@ -21,13 +21,13 @@ ROOT = Path(__file__).resolve().parent.parent
 PARTS = {
     'rules': {
         'search': 'Words Below First Best Table',
-        'numbers': 'Limits Refusals Rows',
+        'numbers': 'Limits Refusals Rows Answers',
         'queue': 'Limits Waiting',
         'processors': 'Modes Words',
         'scheduler': 'Arriving Leaving PlacedTest',
         'input': 'Words Kinds',
         'setups': 'Refusals Naming Clearing',
-        'protocol': 'Records Words Ranks Situations Sound Refusals Locks Events',
+        'protocol': 'Records Words Replies Ranks Situations Sound Refusals Locks Events',
     },
     'bytes and texts': {
         'search': 'Texts',
@@ -62,15 +62,17 @@ PARTS = {
         'locking': 'Playing',
         'plain': 'Orders Engine',
         'scenario': 'Faults Takings',
-        'lines': 'Buffers StateLines',
+        'blocks': 'Kinds',
+        'lines': 'Lines Buffers StateLines',
         'pages': 'Pages',
     },
     'private': {
         'scheduler': 'Changes',
         'setups': 'Sized',
         'soundness': 'Opens',
-        'locking': 'Acting Edits Keeping Ranking Steps Totals',
+        'locking': 'Acting Edits Holding Keeping Ranking Steps Totals',
         'plain': 'Reading',
+        'lines': 'Pens',
         'scenario': 'Named Reads',
     },
 }

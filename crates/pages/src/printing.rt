@@ -97,12 +97,10 @@ fn block_page(x: Session, block: &[u8], out: &mut [u8; Page::LIMIT], engine: Eng
         ≡ paged (block_page x block.now (verdict block.now x.index)) out.old)
         × (result.len ≤ length out.new) }
 {
-    let used = match blocks::judge_block(block, x.index) {
-        Ok(used) => used,
-        Err(refusal) => {
-            let len = lines::block_line(x.index, u8::from(refusal), out).unwrap_or(0);
-            return ended(x, true, len);
-        }
+    let verdict = blocks::judge_block(block, x.index);
+    let Ok(used) = verdict else {
+        let len = lines::block_line(x.index, numbers::answer_of(&verdict), out).unwrap_or(0);
+        return ended(x, true, len);
     };
     let part = blocks::used_part(block, Some(used));
     if x.index == 0 {

@@ -4,10 +4,12 @@ use Rattle.lines.proofs.Lengths.{block_short}
 use Rattle.pages.proofs.Printed.{page_line}
 use Rattle.pages.proofs.printing.block_page.Goals as goal
 
-pub returns-in-Err : goal.returns-in-Err
-returns-in-Err c =
-    rw (← c.in-Err.ensures)
-    (page_line _ _ c.block_line.result c.ended.ensures (omega arith) c.unwrap_or-len.ensures (rw c.from.ensures at c.block_line.ensures) (block_short _ _ (omega arith) (omega arith)))
+pub returns-in_default : goal.returns-in_default
+returns-in_default c =
+    let number = rw (c.answer_of.ensures, c.in_default.is) at c.answer_of.type_inv in
+    let line = rw (c.answer_of.ensures, c.in_default.is) at c.block_line.ensures in
+    rw (← c.in_default.ensures)
+    (page_line _ _ c.block_line.result c.ended.ensures (omega arith) c.unwrap_or-len.ensures line (block_short _ _ (omega arith) (omega (arith, number))))
 
 pub event_page-requires : goal.event_page-requires
 event_page-requires c =
