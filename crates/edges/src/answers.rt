@@ -59,7 +59,11 @@ fn tell_events(rt: &impl Print, which: u64, state: State, busy: State) -> io::Re
     let stepped = locking::step(state, PASSING);
     print_answer(rt, numbers::answer_of(&stepped))?;
     print_flag(rt, stepped.unwrap_or(state) == state)?;
-    tell_played(rt, state, locking::play)
+    tell_played(
+        rt,
+        state,
+        |begun, part, out| locking::play(begun, part, out),
+    )
 }
 
 // Prints the first event stepped by the plain engine, in the busy session's order, and whether the state is as before;
@@ -70,7 +74,7 @@ fn tell_plain(rt: &impl Print, which: u64, state: State, order: Order) -> io::Re
     begin_row(rt, which, "plain")?;
     print_answer(rt, numbers::answer_of(&stepped))?;
     print_flag(rt, stepped.unwrap_or(x).state == state)?;
-    tell_played(rt, state, plain::play)
+    tell_played(rt, state, |begun, part, out| plain::play(begun, part, out))
 }
 
 // How many runnable jobs the scheduler is given.
