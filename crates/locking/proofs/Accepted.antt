@@ -33,10 +33,6 @@ pub unsound_judged : (s : State) (e : Event) → sound s ≡ false → judge s e
 unfolding judge event_rows
 unsound_judged s e h = rw h
 
-pub unsound_stepped : (s : State) (e : Event) → sound s ≡ false → step s e ≡ record { answer = 9; state = s }
-unfolding step step_by
-unsound_stepped s e h = rw (unsound_judged s e h)
-
 pub accepted_sound : (s : State) (e : Event) → judge s e ≡ 0 → sound s ≡ true
 accepted_sound s e ok = go (sound s) refl
   where
@@ -129,10 +125,6 @@ module _ (s : State) (e : Event) (Q : Sound s) (ok : judge s e ≡ 0) where
         asks = λ k. record { inside = inside; placed = g_in (omega arith); room = (asks_of s e Q ok k).room };
         completes = λ k. record { inside = inside; placed = g_in (omega arith); some = (let E = ends_of s e Q ok k in omega (arith, E.some)); few = ((steady_of s e Q ok).locks.tasks e.task).opened.few; next = can_pass (group_of s.setup e.resource) };
       }
-
--- an accepted event is answered with 0, whatever the state after it
-pub accepted_reply : (s : State) (e : Event) (after : State) → judge s e ≡ 0 → after ≡ (step s e).state → record { answer = 0; state = after } ≡ step s e
-accepted_reply s e after ok h = rw (h, ← (step_answer s e ∙ ok))
 
 -- a refused event is answered with its refusal, and leaves the state
 pub refused_reply : (s : State) (e : Event) (refusal : Refusal) → number_of refusal ≡ judge s e → record { answer = number_of refusal; state = s } ≡ step s e

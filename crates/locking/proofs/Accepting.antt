@@ -36,11 +36,10 @@ use Rattle.protocol.proofs.Events.Step.{grouped, event_kinds, row11}
 use Rattle.locking.specs.Acting.{CanAct}
 use Rattle.priorities.specs.Bounds.{latest, is_bounded, rank_by, mode_in, rank_with}
 use Rattle.priorities.proofs.Bounding.{deadline_bounded}
-use Rattle.locking.specs.Edits.{arrive, leave, stay, become_preemptable, give_way, open_in, keeping, requesting, completing, editing, handing, stored, moved_with, moved_by, handed, edit_of, acted}
+use Rattle.locking.specs.Edits.{Edit, arrive, leave, stay, become_preemptable, give_way, open_in, keeping, requesting, completing, editing, handing, stored, moved_with, moved_by, handed, edit_of, acted}
 use Rattle.locking.specs.Ranking.{Ranked}
 use Rattle.locking.specs.Totals.{CanCharge, row_of, total_with, charged_to}
 use Rattle.locking.specs.Keeping.{Keeps}
-use Rattle.locking.specs.declared.acting.Edit.{Edit}
 use Rattle.locking.proofs.Accepted.{can_act, inside, room, charges, asker_pending, g_in as group-in}
 use Rattle.locking.proofs.Acted.{acted_act, edit_needs, next_in_lem, next_pending, next_room, edited_deadline, handed_deadline}
 use Rattle.locking.proofs.Bounded.{within_bounds, put_bounded}

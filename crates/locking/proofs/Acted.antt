@@ -20,8 +20,7 @@ use Rattle.protocol.specs.declared.Task.{Task}
 use Rattle.protocol.specs.declared.Group.{Group}
 use Rattle.protocol.specs.declared.State.{State}
 use Rattle.locking.specs.Acting.{CanPass, CanAct}
-use Rattle.locking.specs.Edits.{stay, become_preemptable, arrive, leave, give_way, open_in, keeping, requesting, completing, editing, handing, put, stored, moved_by, handed, edit_of, acted}
-use Rattle.locking.specs.declared.acting.Edit.{Edit}
+use Rattle.locking.specs.Edits.{Edit, stay, become_preemptable, arrive, leave, give_way, open_in, keeping, requesting, completing, editing, handing, put, stored, moved_by, handed, edit_of, acted}
 use Rattle.locking.proofs.Branching.{request_open, request_spin, request_wait, complete_inner, complete_short, complete_long}
 
 -- ---- the moves

@@ -1,5 +1,5 @@
 -- A session at a state of the rules: what its type tells, and what an accepted event may do on it. Assumes nothing.
-use Rattle.std.proofs.Common.{◌≡◌, ℕ, ◌+◌, ◌<◌, ◌≤◌, ◌≢◌, Bool, true, false, List, [], length, get_or, set, sym, refl, ap, ◌∙◌, subst, arith}
+use Rattle.std.proofs.Common.{◌≡◌, ℕ, ◌+◌, ◌<◌, ◌≤◌, true, List, [], length, get_or, sym, ap, ◌∙◌, subst, arith}
 use native.Mathlib.Decide.{dec_lt}
 use lib.ListN.{get_or-eq_default}
 use Rattle.std.proofs.lemmas.Bool.{eqb-false}
@@ -7,25 +7,21 @@ use Rattle.numbers.specs.Answers.{number_of}
 use Rattle.numbers.specs.declared.answers.Refusal.{Refusal}
 use Rattle.numbers.proofs.Answered.{refusal_counts}
 use Rattle.numbers.specs.Limits.{most_tasks, most_resources, most_requests, nothing}
-use Rattle.processors.specs.declared.Processors.{Processors}
 use Rattle.input.specs.Words.{period, due_at}
 use Rattle.input.specs.declared.Setup.{Setup}
 use Rattle.input.specs.declared.Event.{Event}
 use Rattle.setups.specs.Naming.{names}
-use Rattle.protocol.specs.Records.{total_count, no_task, no_group, with_totals}
+use Rattle.protocol.specs.Records.{no_task, no_group, with_totals}
 use Rattle.protocol.specs.Refusals.{ticks_to, judge}
-use Rattle.protocol.specs.Sound.{sound}
-use Rattle.protocol.specs.Words.{task, group}
+use Rattle.protocol.specs.Words.{task}
 use Rattle.protocol.specs.Events.{step}
 use Rattle.protocol.specs.declared.Task.{Task}
-use Rattle.protocol.specs.declared.Group.{Group}
 use Rattle.protocol.specs.declared.State.{State}
 use Rattle.protocol.proofs.Sound.Statements.{Sound}
 use Rattle.protocol.proofs.Sound.Reflect.{Shaped, sound_of_test, test_of_sound}
 use Rattle.protocol.proofs.Events.Step.{grouped, step_sound, step_setup}
-use Rattle.locking.specs.Edits.{editing}
+use Rattle.locking.specs.Edits.{Edit, editing}
 use Rattle.locking.specs.Keeping.{Keeps}
-use Rattle.locking.specs.declared.acting.Edit.{Edit}
 use Rattle.states.proofs.Tables.{group_read}
 use Rattle.locking.specs.Ranking.{Ranked}
 use Rattle.locking.specs.Holding.{Typed, Holds}

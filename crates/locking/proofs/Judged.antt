@@ -1,5 +1,5 @@
 -- The answer computed part by part is that of the rules' list. Assumes nothing.
-use Rattle.std.proofs.Common.{◌≡◌, ℕ, ◌+◌, ◌<◌, ◌≤◌, Bool, true, false, ltb, leb, ◌-◌, ◌&&◌, ◌||◌, not, ◌≢◌, List, [], ◌∷◌, ◌++◌, length, take, get_or, sym, refl, ap, ◌∙◌, ◌⊎◌, inl, inr, ⊎_elim, arith, eq-eqb, ne_eqb}
+use Rattle.std.proofs.Common.{◌≡◌, ℕ, ◌+◌, ◌≤◌, Bool, true, false, ltb, ◌-◌, ◌&&◌, ◌||◌, ◌≢◌, List, [], ◌∷◌, ◌++◌, length, take, get_or, sym, refl, ap, ◌∙◌, arith, ne_eqb}
 use Rattle.std.specs.Prelude.{if◌then◌else◌}
 use native.Mathlib.Decide.{ℕ_discrete, dec_lt}
 use mathlib.Core.Bool.{and-false}
@@ -12,23 +12,20 @@ use Rattle.search.proofs.Slices.{any_taken}
 use Rattle.numbers.specs.Limits.{most_requests, nothing}
 use Rattle.numbers.specs.Rows.{Row, ◌when◌, ◌otherwise◌, first_of}
 use Rattle.numbers.specs.Numbered.{is_numbered}
-use Rattle.numbers.specs.Answers.{number_of}
-use Rattle.numbers.specs.declared.answers.Refusal.{Refusal}
-use Rattle.numbers.specs.declared.answers.Refusal.TheVariants.{NotSound, EventUnknown, TaskUnknown, ResourceUnknown, FieldUnused, StepBackward, ClockPastEnd, AlreadyPending, ArrivesEarly, NotPending, IsSuspended, OnNoProcessor, IsSpinning, FinishesOpen, AlreadyOpen, WronglyNested, TooManyOpen, NotNewest}
 use Rattle.input.specs.Kinds.{arrival, finish, request as asking, completion}
 use Rattle.input.specs.Words.{period, within}
 use Rattle.input.specs.declared.Setup.{Setup}
 use Rattle.input.specs.declared.Event.{Event}
 use Rattle.setups.specs.Naming.{group_of}
 use Rattle.processors.specs.declared.Processors.{Processors}
-use Rattle.protocol.specs.Words.{last_clock, absent, standing_no, task, stand, depth, request}
+use Rattle.protocol.specs.Words.{absent, standing_no, task, stand, depth, request}
 use Rattle.protocol.specs.Situations.{situation_of, situation, situation_refusal}
 use Rattle.protocol.specs.Refusals.{ticks_to, misplaced, field_rows, event_rows, judge}
 use Rattle.protocol.specs.declared.Task.{Task}
 use Rattle.protocol.specs.declared.State.{State}
 use Rattle.protocol.specs.declared.Situation.{Situation}
 use Rattle.protocol.specs.declared.Situation.TheVariants.{NoJob, Running, Spinning, LinkedOnly, Ready, Suspended}
-use Rattle.locking.specs.Steps.{is_apart, open_in, clock_rows, arrival_rows, finish_rows, request_rows, completion_rows, ◌or_then◌, kind_answer, parts_answer, HasParts}
+use Rattle.locking.specs.Steps.{is_apart, clock_rows, ◌or_then◌, kind_answer, parts_answer, HasParts}
 
 -- the rows of one list after another
 first_append : (xs ys : List Row) → is_numbered xs ≡ true → first_of (xs ++ ys) ≡ first_of xs or_then first_of ys
@@ -133,25 +130,3 @@ parts_judged s {c} {clock} k {p} {naming} e le has =
     let at-arrived : k.arrived ≡ (task s e.task).arrived = sym (ap (λ (x : Task). x.arrived) has.recorded) in
     let at_last : k.last ≡ (task s e.task).last = sym (ap (λ (x : Task). x.last) has.recorded) in
     rw (parts_listed c clock k p naming e le, at-standing, at-requests, at-depth, at-arrived, at_last, has.named, ← has.truly, has.timed, has.placed, has.given)
-
--- ---- an answer is 0, or the number of a refusal
-abbrev IsTold : ℕ → Type 0
-IsTold n = (refusal : Refusal) × (number_of refusal ≡ n)
-
-abbrev AllTold : List Row → Type 0
-AllTold [] = Unit {0}
-AllTold (row ∷ rows) = IsTold row.0 × AllTold rows
-
-first_told : (rows : List Row) → AllTold rows → (first_of rows ≡ 0) ⊎ IsTold (first_of rows)
-first_told [] all = inl refl
-first_told (row ∷ rows) all = go row.1 (first_told rows all.1)
-  where
-    go : (b : Bool) → (first_of rows ≡ 0) ⊎ IsTold (first_of rows) → ((if b then row.0 else first_of rows) ≡ 0) ⊎ IsTold (if b then row.0 else first_of rows)
-    go true later = inr all.0
-    go false later = later
-
-pub judged_told : (s : State) (e : Event) → ((refusal : Refusal) → number_of refusal ≢ judge s e) → judge s e ≡ 0
-unfolding judge event_rows
-judged_told s e none =
-    let told : AllTold (event_rows s e) = ((NotSound, refl), ((EventUnknown, refl), ((TaskUnknown, refl), ((ResourceUnknown, refl), ((FieldUnused, refl), ((StepBackward, refl), ((ClockPastEnd, refl), ((AlreadyPending, refl), ((ArrivesEarly, refl), ((NotPending, refl), ((IsSuspended, refl), ((OnNoProcessor, refl), ((IsSpinning, refl), ((FinishesOpen, refl), ((AlreadyOpen, refl), ((WronglyNested, refl), ((TooManyOpen, refl), ((NotNewest, refl), tt)))))))))))))))))) in
-    ⊎_elim (λ q. q) (λ r. absurd (none r.0 r.1)) (first_told (event_rows s e) told)

@@ -15,4 +15,5 @@ pub mod Runs
 pub mod Shapes
 pub mod Still
 pub mod Totals
+pub mod Turns
 pub mod Unmoved

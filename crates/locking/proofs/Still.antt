@@ -17,9 +17,8 @@ use Rattle.protocol.specs.declared.Standing.TheVariants.{Waiting}
 use Rattle.protocol.specs.declared.Task.{Task}
 use Rattle.protocol.specs.declared.Group.{Group}
 use Rattle.priorities.specs.Bounds.{rank_by}
-use Rattle.locking.specs.Edits.{stay, arrive, leave, open_in, keeping, requesting, completing, editing, handing}
+use Rattle.locking.specs.Edits.{Edit, stay, arrive, leave, open_in, keeping, requesting, completing, editing, handing}
 use Rattle.locking.specs.Ranking.{Ranked}
-use Rattle.locking.specs.declared.acting.Edit.{Edit}
 
 -- ---- the tables with t's standing a and rank r: t is pending as before, suspended only if it was, of the same rank
 same_none : (a b : ℕ) → (a ≡ absent → b ≡ absent) → (b ≡ absent → a ≡ absent) → (a isn't absent) ≡ (b isn't absent)

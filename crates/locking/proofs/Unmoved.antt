@@ -12,8 +12,7 @@ use Rattle.protocol.specs.declared.Group.{Group}
 use Rattle.protocol.specs.declared.State.{State}
 use Rattle.protocol.proofs.Events.Edited.{act_back}
 use Rattle.locking.specs.Acting.{CanAct}
-use Rattle.locking.specs.Edits.{handing, stored, moved_by, handed, edit_of, acted}
-use Rattle.locking.specs.declared.acting.Edit.{Edit}
+use Rattle.locking.specs.Edits.{Edit, handing, stored, moved_by, handed, edit_of, acted}
 use Rattle.locking.proofs.Acted.{acted_act}
 
 -- ---- the records of an event that can be done, on the place g of its group where it has one

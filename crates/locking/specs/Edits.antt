@@ -20,9 +20,11 @@ use Rattle.protocol.specs.declared.Standing.TheVariants.{Active, Waiting}
 use Rattle.protocol.specs.declared.Task.{Task}
 use Rattle.protocol.specs.declared.Group.{Group}
 use Rattle.protocol.specs.declared.State.{State}
-use Rattle.locking.specs.declared.acting.Edit.{Edit}
+use Rattle.locking.specs.declared.acting.Edit.{Edit as Edited}
+use Rattle.locking.specs.declared.acting.Turn.{Turn}
+use Rattle.locking.specs.declared.acting.Turn.TheVariants.{Stay, BecomePreemptable, Arrive, Leave, GiveWay}
 
--- ---- the scheduler's moves by number, `Edit::STAY` to `Edit::GIVE_WAY`
+-- ---- the scheduler's moves by number
 -- no move
 abbrev pub stay : ℕ
 stay = 0
@@ -42,6 +44,25 @@ leave = 3
 -- give way
 abbrev pub give_way : ℕ
 give_way = 4
+
+-- the number of a move
+abbrev pub turn_no : Turn → ℕ
+turn_no Stay = stay
+turn_no BecomePreemptable = become_preemptable
+turn_no Arrive = arrive
+turn_no Leave = leave
+turn_no GiveWay = give_way
+
+-- the records of an event's task and group after it, the move that follows, and the task that is then handed the group
+pub record Edit : Type 0 where
+  pub task : Task
+  pub group : Group
+  pub turn : ℕ
+  pub next : ℕ
+
+-- what the code returns as an edit
+abbrev pub edit_from : Edited → Edit
+edit_from d = record { task = d.task; group = d.group; turn = turn_no d.turn; next = d.next }
 
 -- ---- the event on the records: x of its task, y of its group
 -- x has a request of r's kind open

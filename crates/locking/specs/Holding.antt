@@ -35,7 +35,8 @@ pub record Holds (s : State) (x : Session) : Type 0 where
   pub given : x.state.setup ≡ s.setup
   pub tested : x.sound ≡ sound s
   pub named : x.naming ≡ names s.setup
-  pub keeps : Keeps s x.state.clock x.state.tasks x.state.groups x.state.processors x.totals x.kept.own x.kept.modes x.kept.stands
+  pub keeps : Keeps s x.state.clock x.state.tasks x.state.groups x.state.processors x.totals
+      x.kept.own x.kept.modes x.kept.stands
   pub ranked : x.state.setup.tasks ≤ most_tasks → Ranked x.kept.stands x.kept.own x.state.setup.tasks x.ahead
 
 -- with y as the record of task t, and z as that at place g
@@ -50,4 +51,5 @@ abbrev pub turned_in : ℕ → ℕ → Session → Session
 turned_in turn t x =
     let c = x.state.setup in
     let ranks = table (rank_with x.kept.own c.kinds (min c.resources most_resources) x.state.groups) most_tasks in
-    record x { state = record x.state { processors = moved_with turn x.state.processors (jobs_from ranks x.kept.modes) t } }
+    let p = moved_with turn x.state.processors (jobs_from ranks x.kept.modes) t in
+    record x { state = record x.state { processors = p } }

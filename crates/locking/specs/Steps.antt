@@ -1,5 +1,5 @@
 -- Parts of the rules, over what the code has at hand.
-use Rattle.std.specs.Prelude.{◌≡◌, ℕ, ◌+◌, ◌-◌, Bool, ◌&&◌, ◌||◌, List, [], length, take, leb, ltb, get_or, slice_index_or, if◌then◌else◌}
+use Rattle.std.specs.Prelude.{◌≡◌, ℕ, ◌+◌, ◌-◌, Bool, ◌&&◌, ◌||◌, List, [], length, take, leb, ltb, get_or, if◌then◌else◌}
 use Rattle.search.specs.Words.{◌is◌, ◌isn't◌}
 use Rattle.search.specs.Below.{any_below}
 use Rattle.processors.specs.declared.Processors.{Processors}

@@ -1,43 +1,56 @@
 // What an accepted event does to the records of its task and its group.
-ghost use Rattle.std.specs.Prelude.{◌≡◌, ◌<◌, ◌≤◌};
+ghost use Rattle.std.specs.Prelude.{◌≡◌, ◌<◌, ◌≤◌, ◌||◌};
+ghost use Rattle.search.specs.Words.{◌is◌};
 ghost use Rattle.input.specs.Kinds.{request as asking, completion};
 ghost use Rattle.numbers.specs.Limits.{most_requests};
-ghost use Rattle.locking.specs.Edits.{requesting, completing, editing, handing};
+ghost use Rattle.locking.specs.Edits.{arrive, leave, turn_no, edit_from, requesting, completing, editing, handing};
 
 use crate::edits::{arrived, closed, departed, lock_of, opened};
 use input::{Event, Setup};
 use numbers::Limit;
 use protocol::{Group, Standing, Task};
 
+// The scheduler's move that follows.
+#[derive(Clone, Copy, Debug, PartialEq, Eq)]
+pub enum Turn {
+    // None.
+    Stay,
+    // A job becomes preemptable.
+    BecomePreemptable,
+    // It arrives or resumes.
+    Arrive,
+    // It finishes or suspends.
+    Leave,
+    GiveWay,
+}
+
+impl Turn {
+    // It changes who outranks whom: a job arrives, finishes or suspends.
+    pub fn ranks_again(self) -> bool
+        ensures { result ≡ (turn_no self is arrive || turn_no self is leave) }
+    {
+        matches!(self, Turn::Arrive | Turn::Leave)
+    }
+}
+
 // The records of an event's task and group after it, the scheduler's move `turn` that follows, and the task `next`
-// that is then handed the group, or nobody. Both records are always there, changed or not: so every kind of event is
-// done alike, by reading the two, storing them back and making the move.
+// that is then handed the group. Both records are always there, changed or not: so every kind of event is done alike,
+// by reading the two, storing them back and making the move. `next` is nobody, as a place of a queue is, and no
+// `None`: a queue of any content may hold nobody at its first place, and then nobody is handed the group.
 #[derive(Clone, Copy)]
 pub struct Edit {
     pub task: Task,
     pub group: Group,
-    pub turn: u8,
+    pub turn: Turn,
     pub next: u8,
-}
-
-impl Edit {
-    // The scheduler's moves: none, becoming preemptable, arriving or resuming, finishing or suspending, giving way.
-    pub const STAY: u8 = 0;
-
-    pub const BECOME_PREEMPTABLE: u8 = 1;
-
-    pub const ARRIVE: u8 = 2;
-
-    pub const LEAVE: u8 = 3;
-
-    pub const GIVE_WAY: u8 = 4;
 }
 
 // Task `t` requests `r`: it holds the group at once, or it is enqueued at the end and spins or suspends. X
 // below `row` is a plain choice between two numbers.
+#[tactic(auto, unfolding(crate::specs::Edits::requesting))]
 fn request(kinds: [u8; Setup::RESOURCES], task: Task, group: Group, t: u8, r: u8) -> Edit
     requires { task.depth < most_requests }
-    ensures { result ≡ requesting kinds task group t r }
+    ensures { edit_from result ≡ requesting kinds task group t r }
 {
     let requests = task.requests;
     let queue = group.queue;
@@ -46,7 +59,7 @@ fn request(kinds: [u8; Setup::RESOURCES], task: Task, group: Group, t: u8, r: u8
         Edit {
             task: opened(task, r),
             group: Group { holder: t, queue },
-            turn: Edit::STAY,
+            turn: Turn::Stay,
             next: Limit::NOBODY,
         }
     } else {
@@ -58,7 +71,11 @@ fn request(kinds: [u8; Setup::RESOURCES], task: Task, group: Group, t: u8, r: u8
                 holder: group.holder,
                 queue: longer,
             },
-            turn: search::pick(kind == Setup::SHORT, Edit::STAY, Edit::LEAVE),
+            turn: if kind == Setup::SHORT {
+                Turn::Stay
+            } else {
+                Turn::Leave
+            },
             next: Limit::NOBODY,
         }
     }
@@ -66,9 +83,10 @@ fn request(kinds: [u8; Setup::RESOURCES], task: Task, group: Group, t: u8, r: u8
 
 // The newest request, that for `r`, is closed; if it was outermost, the group is free, to be handed to the first in
 // its queue.
+#[tactic(auto, unfolding(crate::specs::Edits::completing))]
 fn complete(kinds: [u8; Setup::RESOURCES], task: Task, group: Group, r: u8) -> Edit
     requires { (0 < task.depth) × (task.depth ≤ most_requests) }
-    ensures { result ≡ completing kinds task group r }
+    ensures { edit_from result ≡ completing kinds task group r }
 {
     let done = closed(task);
     let requests = done.requests;
@@ -78,7 +96,7 @@ fn complete(kinds: [u8; Setup::RESOURCES], task: Task, group: Group, r: u8) -> E
         Edit {
             task: done,
             group,
-            turn: Edit::STAY,
+            turn: Turn::Stay,
             next: Limit::NOBODY,
         }
     } else {
@@ -88,17 +106,22 @@ fn complete(kinds: [u8; Setup::RESOURCES], task: Task, group: Group, r: u8) -> E
                 holder: Limit::NOBODY,
                 queue,
             },
-            turn: search::pick(
-                kind == Setup::SHORT,
-                Edit::BECOME_PREEMPTABLE,
-                Edit::GIVE_WAY,
-            ),
-            next: search::pick(queue.len == 0, Limit::NOBODY, queue.first()),
+            turn: if kind == Setup::SHORT {
+                Turn::BecomePreemptable
+            } else {
+                Turn::GiveWay
+            },
+            next: if queue.len == 0 {
+                Limit::NOBODY
+            } else {
+                queue.first()
+            },
         }
     }
 }
 
 // Event `e` at `clock`, on the records of its task and of its group. A job that arrives has the deadline `due`.
+#[tactic(auto, unfolding(crate::specs::Edits::editing))]
 pub fn edited(
     kinds: [u8; Setup::RESOURCES],
     due: u64,
@@ -109,42 +132,39 @@ pub fn edited(
 ) -> Edit
     requires { (e.kind ≡ asking → task.depth < most_requests)
         × (e.kind ≡ completion → (0 < task.depth) × (task.depth ≤ most_requests)) }
-    ensures { result ≡ editing kinds due clock task group e }
+    ensures { edit_from result ≡ editing kinds due clock task group e }
 {
-    if e.kind == Event::ARRIVAL {
-        Edit {
+    match e.kind {
+        Event::ARRIVAL => Edit {
             task: arrived(task, clock, due),
             group,
-            turn: Edit::ARRIVE,
+            turn: Turn::Arrive,
             next: Limit::NOBODY,
-        }
-    } else if e.kind == Event::FINISH {
-        Edit {
+        },
+        Event::FINISH => Edit {
             task: departed(task),
             group,
-            turn: Edit::LEAVE,
+            turn: Turn::Leave,
             next: Limit::NOBODY,
-        }
-    } else if e.kind == Event::REQUEST {
-        request(kinds, task, group, e.task, e.resource)
-    } else if e.kind == Event::COMPLETION {
-        complete(kinds, task, group, e.resource)
-    } else {
-        Edit {
+        },
+        Event::REQUEST => request(kinds, task, group, e.task, e.resource),
+        Event::COMPLETION => complete(kinds, task, group, e.resource),
+        _ => Edit {
             task,
             group,
-            turn: Edit::STAY,
+            turn: Turn::Stay,
             next: Limit::NOBODY,
-        }
+        },
     }
 }
 
 // The queue's first job, task `next` with the record `task`, is dequeued and becomes holder of `group`, and what it
 // asked for is open. `turn` is the completer's move: where that was to give way, the group is long, and `next`
 // resumes.
-pub fn hand_over(task: Task, group: Group, turn: u8, next: u8) -> Edit
+#[tactic(auto, unfolding(crate::specs::Edits::handing))]
+pub fn hand_over(task: Task, group: Group, turn: Turn, next: u8) -> Edit
     requires { task.depth < most_requests }
-    ensures { result ≡ handing task group turn next }
+    ensures { edit_from result ≡ handing task group (turn_no turn) next }
 {
     let standing = task.standing;
     let queue = group.queue;
@@ -158,7 +178,11 @@ pub fn hand_over(task: Task, group: Group, turn: u8, next: u8) -> Edit
             holder: next,
             queue: rest,
         },
-        turn: search::pick(turn == Edit::GIVE_WAY, Edit::ARRIVE, Edit::STAY),
+        turn: if turn == Turn::GiveWay {
+            Turn::Arrive
+        } else {
+            Turn::Stay
+        },
         next,
     }
 }

@@ -8,6 +8,7 @@ ghost use Rattle.locking.specs.Totals.{all_totals, row_of, counted, totals_in, m
 use input::Setup;
 use processors::Processors;
 use protocol::Task;
+use std::array;
 
 // How many totals all tasks have.
 pub const ALL_TOTALS: usize = Setup::TASKS * Task::TOTALS;
@@ -29,6 +30,8 @@ const SUSPENDED_OTHERWISE: u8 = 5;
 pub fn totals_of(tasks: [Task; Setup::TASKS]) -> [u32; ALL_TOTALS]
     ensures { result ≡ totals_in tasks }
 {
+    // By index, here and in `with_totals`: with array::from_fn the proof did not close, as a record that is read in a
+    // closure is not known to be in the array.
     let mut totals = [0u32; ALL_TOTALS];
     for k in 0..ALL_TOTALS {
         let task = tasks[k / Task::TOTALS];
@@ -42,20 +45,17 @@ fn row_of(totals: &[u32], t: usize) -> [u32; Task::TOTALS]
     requires { (t < most_tasks) × (length totals.now ≡ all_totals) }
     ensures { result ≡ row_of totals.now t }
 {
-    let mut row = [0u32; Task::TOTALS];
-    for i in 0..Task::TOTALS {
-        row[i] = totals[Task::TOTALS * t + i];
-    }
-    row
+    array::from_fn(|i| totals[Task::TOTALS * t + i])
 }
 
 // The task with other totals.
 fn with_row(task: Task, row: [u32; Task::TOTALS]) -> Task
     ensures { result ≡ with_totals row task }
 {
-    let mut next = task;
-    next.totals = row;
-    next
+    Task {
+        totals: row,
+        ..task
+    }
 }
 
 // The records with the totals of the table.

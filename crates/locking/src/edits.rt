@@ -35,16 +35,12 @@ pub fn closed(task: Task) -> Task
 pub fn arrived(task: Task, now: u32, due: u64) -> Task
     ensures { result ≡ arriving now due task }
 {
-    let requests = task.requests;
-    let totals = task.totals;
     Task {
         standing: Standing::Active,
         deadline: due,
         arrived: true,
         last: now,
-        requests,
-        depth: task.depth,
-        totals,
+        ..task
     }
 }
 
@@ -52,16 +48,10 @@ pub fn arrived(task: Task, now: u32, due: u64) -> Task
 pub fn departed(task: Task) -> Task
     ensures { result ≡ departing task }
 {
-    let requests = task.requests;
-    let totals = task.totals;
     Task {
         standing: Standing::Absent,
         deadline: 0,
-        arrived: task.arrived,
-        last: task.last,
-        requests,
-        depth: task.depth,
-        totals,
+        ..task
     }
 }
 

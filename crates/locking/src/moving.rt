@@ -4,10 +4,10 @@ ghost use Rattle.search.specs.Table.{table};
 ghost use Rattle.processors.specs.Words.{jobs_from, first_modes};
 ghost use Rattle.numbers.specs.Limits.{most_tasks, most_resources};
 ghost use Rattle.priorities.specs.Bounds.{rank_with};
-ghost use Rattle.locking.specs.Edits.{leave, give_way, moved_with};
+ghost use Rattle.locking.specs.Edits.{leave, give_way, turn_no, moved_with};
 ghost use Rattle.locking.specs.Keeping.{kept_in, kept_with};
 
-use crate::acting::Edit;
+use crate::acting::Turn;
 use input::Setup;
 use numbers::Limit;
 use processors::{Jobs, Processors};
@@ -47,39 +47,40 @@ pub fn keep(kept: Kept, kinds: [u8; Setup::RESOURCES], task: Task, t: u8) -> Kep
     next
 }
 
+// What the scheduler knows of the jobs: their effective ranks, from the own ranks and the groups, and their modes.
+fn jobs_of(kept: Kept, setup: Setup, groups: [Group; Setup::RESOURCES]) -> Jobs
+    ensures { result ≡ jobs_from
+        (table (rank_with kept.own setup.kinds (min setup.resources most_resources) groups) most_tasks)
+        kept.modes }
+{
+    let kinds = setup.kinds;
+    let own = kept.own;
+    let modes = kept.modes;
+    let ranks = priorities::ranks_of(own, kinds, setup.resources, groups);
+    Jobs { ranks, modes }
+}
+
 // The processors after the move `turn` of task `t`. The effective ranks are computed anew, from the own ranks and the
-// groups as they are now.
+// groups as they are now, where the move needs them.
 pub fn moved(
-    turn: u8,
+    turn: Turn,
     p: Processors,
     kept: Kept,
     setup: Setup,
     groups: [Group; Setup::RESOURCES],
     t: u8,
 ) -> Processors
-    requires { (turn ≡ leave) ⊎ (turn ≡ give_way) → first_modes setup.tasks kept.modes ≡ kept.modes }
-    ensures { result ≡ moved_with turn p (jobs_from
+    requires { (turn_no turn ≡ leave) ⊎ (turn_no turn ≡ give_way)
+        → first_modes setup.tasks kept.modes ≡ kept.modes }
+    ensures { result ≡ moved_with (turn_no turn) p (jobs_from
         (table (rank_with kept.own setup.kinds (min setup.resources most_resources) groups) most_tasks)
         kept.modes) t }
 {
-    if turn == Edit::STAY {
-        return p;
-    }
-    if turn == Edit::BECOME_PREEMPTABLE {
-        return scheduler::become_preemptable(p, t);
-    }
-    let kinds = setup.kinds;
-    let own = kept.own;
-    let modes = kept.modes;
-    let ranks = priorities::ranks_of(own, kinds, setup.resources, groups);
-    let jobs = Jobs { ranks, modes };
-    if turn == Edit::ARRIVE {
-        scheduler::arrive(p, &jobs, t, Limit::NOBODY)
-    } else if turn == Edit::LEAVE {
-        scheduler::leave(p, &jobs, setup.tasks, t)
-    } else if turn == Edit::GIVE_WAY {
-        scheduler::give_way(p, &jobs, setup.tasks, t)
-    } else {
-        p
+    match turn {
+        Turn::Stay => p,
+        Turn::BecomePreemptable => scheduler::become_preemptable(p, t),
+        Turn::Arrive => scheduler::arrive(p, &jobs_of(kept, setup, groups), t, Limit::NOBODY),
+        Turn::Leave => scheduler::leave(p, &jobs_of(kept, setup, groups), setup.tasks, t),
+        Turn::GiveWay => scheduler::give_way(p, &jobs_of(kept, setup, groups), setup.tasks, t),
     }
 }

@@ -7,10 +7,10 @@ ghost use Rattle.protocol.specs.Records.{no_task};
 ghost use Rattle.protocol.specs.Events.{step};
 ghost use Rattle.protocol.specs.Refusals.{judge};
 ghost use Rattle.protocol.specs.declared.State.{State};
-ghost use Rattle.locking.specs.Edits.{leave, give_way};
+ghost use Rattle.locking.specs.Edits.{leave, give_way, turn_no};
 ghost use Rattle.locking.specs.Holding.{Holds, stored_in, turned_in};
 
-use crate::acting::{Edit, edited, hand_over};
+use crate::acting::{Turn, edited, hand_over};
 use crate::clock::step_to;
 use crate::counting::{ALL_TOTALS, charge, totals_of, with_totals};
 use crate::judging::judge_parts;
@@ -103,10 +103,10 @@ impl Session {
     }
 
     // Task `t` makes the move `turn`.
-    fn turn(&mut self, turn: u8, t: u8)
-        requires { (turn ≡ leave) ⊎ (turn ≡ give_way)
+    fn turn(&mut self, turn: Turn, t: u8)
+        requires { (turn_no turn ≡ leave) ⊎ (turn_no turn ≡ give_way)
             → first_modes self.old.state.setup.tasks self.old.kept.modes ≡ self.old.kept.modes }
-        ensures { self.new ≡ turned_in turn t self.old }
+        ensures { self.new ≡ turned_in (turn_no turn) t self.old }
     {
         let p = self.state.processors;
         let groups = self.state.groups;
@@ -121,16 +121,18 @@ impl Session {
         let setup = self.state.setup;
         let p = self.state.processors;
         let ticks = step_to(self.state.clock, e.tick);
-        charge(&mut self.totals, self.kept.stands, self.ahead, p, setup.tasks, ticks);
+        let stands = self.kept.stands;
+        let ahead = self.ahead;
+        charge(&mut self.totals, stands, ahead, p, setup.tasks, ticks);
         let clock = self.state.clock + (ticks as u32);
         self.state.clock = clock;
         let g = place_in(self.naming, e.resource);
         let task = self.task(e.task);
         let group = self.state.groups[g];
-        let edit = edited(setup.kinds, states::due_at(setup, e.task, clock), clock, task, group, e);
+        let due = states::due_at(setup, e.task, clock);
+        let edit = edited(setup.kinds, due, clock, task, group, e);
         self.store(e.task, g, edit.task, edit.group);
         // Nobody else changes who outranks whom: a job that is handed a group below was pending, and stays so.
-        let again = (edit.turn == Edit::ARRIVE) | (edit.turn == Edit::LEAVE);
         rank_again(
             &mut self.ahead,
             &self.kept.stands,
@@ -138,7 +140,7 @@ impl Session {
             setup.tasks,
             task,
             e.task,
-            again,
+            edit.turn.ranks_again(),
         );
         self.turn(edit.turn, e.task);
         if edit.next != Limit::NOBODY {

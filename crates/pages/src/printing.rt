@@ -47,9 +47,8 @@ fn setup_page(x: Session, part: &[u8], out: &mut [u8; Page::LIMIT]) -> Page
     match states::begin(input::setup_from(part)) {
         Ok(state) => {
             let setup = state.setup;
-            let len = lines::counts_line(setup.processors, setup.tasks, setup.start, out).unwrap_or(
-                0,
-            );
+            let line = lines::counts_line(setup.processors, setup.tasks, setup.start, out);
+            let len = line.unwrap_or(0);
             let session = Session {
                 index: 1,
                 events: 0,

@@ -1,5 +1,5 @@
 -- The answer is that of the rules, and an accepted event is charged and edited. Assumes nothing.
-use Rattle.std.proofs.Common.{◌≡◌, ◌≤◌, sym, ◌∙◌, eq-eqb, arith}
+use Rattle.std.proofs.Common.{◌≡◌, ◌≤◌, sym, eq-eqb, arith}
 use Rattle.std.proofs.lemmas.Grind.{common_steps}
 use Rattle.numbers.proofs.Answered.{refusal_counts}
 use Rattle.input.specs.Kinds.{request as asking, completion}

@@ -9,7 +9,7 @@ returns-in-Ok c =
     let setup = c.in-Ok.state.setup in
     let start : setup.start < 2 ^ 32 = search rules in
     rw (← c.setup_from.ensures, ← c.in-Ok.ensures)
-    (page_line _ _ c.counts_line.result refl (omega arith) c.unwrap_or-len.ensures c.counts_line.ensures (first_short setup.processors setup.tasks setup.start (omega arith) (omega arith) (omega (arith, start))))
+    (page_line _ _ c.counts_line-line.result refl (omega arith) c.unwrap_or-len.ensures c.counts_line-line.ensures (first_short setup.processors setup.tasks setup.start (omega arith) (omega arith) (omega (arith, start))))
 
 pub returns-in-Err : goal.returns-in-Err
 returns-in-Err c =
