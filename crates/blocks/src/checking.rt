@@ -27,6 +27,7 @@ pub fn check_of(block: &[u8]) -> Check
 {
     let mut first = 0u32;
     let mut second = 0u32;
+    // A plain loop: the index is a word's place, in blocks of any length, and every block that is read pays for it.
     for i in 0..WORDS {
         first += u32::from(word_at(block, 2 * i));
         second += first;

@@ -45,8 +45,7 @@ pub struct Edit {
     pub next: u8,
 }
 
-// Task `t` requests `r`: it holds the group at once, or it is enqueued at the end and spins or suspends. X
-// below `row` is a plain choice between two numbers.
+// Task `t` requests `r`: it holds the group at once, or it is enqueued at the end and spins or suspends.
 #[tactic(auto, unfolding(crate::specs::Edits::requesting))]
 fn request(kinds: [u8; Setup::RESOURCES], task: Task, group: Group, t: u8, r: u8) -> Edit
     requires { task.depth < most_requests }

@@ -13,7 +13,7 @@ use std::array;
 // How many totals all tasks have.
 pub const ALL_TOTALS: usize = Setup::TASKS * Task::TOTALS;
 
-// The numbers of the totals, in the order printed.
+// The numbers of the totals, in the order printed: places of a task's row, no kinds.
 const RUNNING: u8 = 0;
 
 const SPINNING: u8 = 1;
@@ -75,6 +75,7 @@ fn mark(places: &mut [u8], tasks: [u8; Processors::LIMIT], place: u8)
     requires { length places.old ≡ most_tasks }
     ensures { places.new ≡ marked_by place tasks places.old }
 {
+    // By index, as `marked_by` goes over the processors' numbers.
     for k in 0..Processors::LIMIT {
         let t = tasks[k] as usize;
         if t < Setup::TASKS {

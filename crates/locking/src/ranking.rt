@@ -17,7 +17,8 @@ fn is_lower(stand: u8, rank: u64, other: u64) -> bool
     (stand != Task::ABSENT) & (rank < other)
 }
 
-// How many of the first `count` tasks outrank task `t`.
+// How many of the first `count` tasks outrank task `t`. Here and below the tables are lent apart, and gone through by
+// a task's number: a session lends `ahead` to be changed beside them, and a task is told from `t` by its number.
 fn ahead_of(stands: &[u8; Setup::TASKS], own: &[u64; Setup::TASKS], count: usize, t: usize) -> u8
     requires { (count ≤ most_tasks) × (t < most_tasks) }
     ensures { result ≡ ahead_of stands.now own.now count t }

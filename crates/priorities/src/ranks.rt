@@ -74,6 +74,7 @@ pub fn ranks_of(
     let count = resources.min(Setup::RESOURCES);
     let past = search::entry(&groups, count, states::no_group());
     let mut ranks = unraised(own, past.queue);
+    // By a group's number, which is its place in two tables.
     for g in (0..count).rev() {
         let group = groups[g];
         let holder = usize::from(group.holder);
