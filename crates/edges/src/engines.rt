@@ -21,7 +21,7 @@ pub struct Both {
     pub alike_pages: u64,
 }
 
-// One more, if the engines agreed.
+// One more, if the engines agreed. `timing` has the like: the two programs share nothing but `streams`, which reads.
 fn count_if(alike: bool, count: u64) -> u64 {
     if alike { count.wrapping_add(1) } else { count }
 }

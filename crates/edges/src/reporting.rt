@@ -12,7 +12,7 @@ pub fn print_number(rt: &impl Print, n: u64) -> io::Result<()> {
 
 // A number from the list.
 pub fn print_answer(rt: &impl Print, answer: u8) -> io::Result<()> {
-    print!(rt; " {answer}")
+    print_number(rt, u64::from(answer))
 }
 
 // 1 for yes, 0 for no.

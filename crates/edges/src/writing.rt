@@ -103,15 +103,15 @@ fn tell_events(rt: &impl Print, e: Event, count: usize, index: u64, room: usize)
     print_written(rt, written, &out, index)
 }
 
-// The set-up with the fault that has that number; with 0, without any.
-fn faulty(number: u8) -> Setup {
+// The set-up with the fault that has this refusal; with none, without any. No other refusal is of a set-up.
+fn faulty(refusal: Option<Refusal>) -> Setup {
     let mut setup = printed::busy_setup();
-    match number {
-        1 => setup.processors = usize::MAX,
-        2 => setup.periods[2] = 0,
-        3 => setup.kinds[1] = 2,
-        4 => setup.outer[0] = 2,
-        5 => {
+    match refusal {
+        Some(Refusal::CountOutside) => setup.processors = usize::MAX,
+        Some(Refusal::PeriodZero) => setup.periods[2] = 0,
+        Some(Refusal::KindUnknown) => setup.kinds[1] = 2,
+        Some(Refusal::PairStray) => setup.outer[0] = 2,
+        Some(Refusal::LongInShort) => {
             setup.kinds[0] = Setup::LONG;
             setup.kinds[1] = Setup::SHORT;
         }
@@ -165,19 +165,19 @@ fn full() -> Setup {
 
 // Set-ups that are written, and ones that are refused.
 fn tell_setups(rt: &impl Print) -> io::Result<()> {
-    tell_setup(rt, faulty(0), Block::SIZE)?;
+    tell_setup(rt, faulty(None), Block::SIZE)?;
     tell_setup(rt, past_counts(), Block::SIZE)?;
     tell_setup(rt, full(), Block::SIZE)?;
-    tell_setup(rt, faulty(1), Block::SIZE)?;
-    tell_setup(rt, faulty(2), Block::SIZE)?;
-    tell_setup(rt, faulty(3), Block::SIZE)?;
-    tell_setup(rt, faulty(4), Block::SIZE)?;
-    tell_setup(rt, faulty(5), Block::SIZE)?;
-    tell_setup(rt, faulty(1), Block::SIZE - 1)?;
-    tell_setup(rt, faulty(1), Block::SIZE + 1)?;
-    tell_setup(rt, faulty(1), 0)?;
-    tell_setup(rt, faulty(0), Block::SIZE - 1)?;
-    tell_setup(rt, faulty(0), Block::SIZE + 1)
+    tell_setup(rt, faulty(Some(Refusal::CountOutside)), Block::SIZE)?;
+    tell_setup(rt, faulty(Some(Refusal::PeriodZero)), Block::SIZE)?;
+    tell_setup(rt, faulty(Some(Refusal::KindUnknown)), Block::SIZE)?;
+    tell_setup(rt, faulty(Some(Refusal::PairStray)), Block::SIZE)?;
+    tell_setup(rt, faulty(Some(Refusal::LongInShort)), Block::SIZE)?;
+    tell_setup(rt, faulty(Some(Refusal::CountOutside)), Block::SIZE - 1)?;
+    tell_setup(rt, faulty(Some(Refusal::CountOutside)), Block::SIZE + 1)?;
+    tell_setup(rt, faulty(Some(Refusal::CountOutside)), 0)?;
+    tell_setup(rt, faulty(None), Block::SIZE - 1)?;
+    tell_setup(rt, faulty(None), Block::SIZE + 1)
 }
 
 // Events that are written, and ones that are refused.

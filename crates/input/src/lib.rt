@@ -15,7 +15,8 @@ pub use writing::{event_bytes, high, low};
 
 // The counts, the starting clock, each task's period, each resource's kind, and the nesting pairs.
 // Places past a count are not read. A session has fixed memory, and any counts and any kinds get an answer, so the
-// counts stay beside the tables, and the kinds stay numbers.
+// counts stay beside the tables, and the kinds stay numbers. The pairs are two tables, as the rules read them
+// (`outer_of`, `inner_of`).
 #[derive(Clone, Copy, PartialEq, Eq)]
 pub struct Setup {
     pub processors: usize,

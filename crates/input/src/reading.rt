@@ -43,7 +43,8 @@ fn kinds_in(part: &[u8]) -> [u8; Setup::RESOURCES]
     array::from_fn(|r| byte_at(part, Setup::KINDS_AT + r))
 }
 
-// The outer resources of the pairs, or, with `side` 1, the inner ones.
+// The outer resources of the pairs, or, with `side` 1, the inner ones: the side is what is added to a place, as in the
+// definition.
 fn side_in(part: &[u8], side: usize) -> [u8; Setup::PAIRS]
     requires { side < 2 }
     ensures { result ≡ side_in part.now side }

@@ -10,6 +10,9 @@ ghost use Rattle.lines.specs.Texts.{task_text, place_text, totals_text};
 use numbers::Limit;
 use protocol::Task;
 
+// Numbers are written here and not by `Display`: what a line holds is a definition of specs/ (`decimal`), and each event's
+// line is made so.
+//
 // Enough digits for every number of 64 bits.
 const MOST_DIGITS: u8 = 20;
 
@@ -127,6 +130,7 @@ impl<'a> Pen<'a> {
         ensures wrote { Wrote self.old (places_text snapshot.now count) self.new }
         ensures within { self.new.at ≤ self.old.at + place_width * count }
     {
+        // By a processor's number, which gives two places of the snapshot.
         for k in 0..count {
             self.put_place(
                 input::byte_at(snapshot, 2 * k + 1),

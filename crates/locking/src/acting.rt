@@ -6,7 +6,7 @@ ghost use Rattle.numbers.specs.Limits.{most_requests};
 ghost use Rattle.locking.specs.Edits.{arrive, leave, turn_no, edit_from, requesting, completing, editing, handing};
 
 use crate::edits::{arrived, closed, departed, lock_of, opened};
-use input::{Event, Setup};
+use input::{Event, Kind, Setup};
 use numbers::Limit;
 use protocol::{Group, Standing, Task};
 
@@ -21,11 +21,12 @@ pub enum Turn {
     Arrive,
     // It finishes or suspends.
     Leave,
+    // Its priority is restored, and a higher one may take its processor.
     GiveWay,
 }
 
 impl Turn {
-    // It changes who outranks whom: a job arrives, finishes or suspends.
+    // It may change who outranks whom: a job arrives, resumes, finishes or suspends.
     pub fn ranks_again(self) -> bool
         ensures { result ≡ (turn_no self is arrive || turn_no self is leave) }
     {
@@ -133,27 +134,29 @@ pub fn edited(
         × (e.kind ≡ completion → (0 < task.depth) × (task.depth ≤ most_requests)) }
     ensures { edit_from result ≡ editing kinds due clock task group e }
 {
-    match e.kind {
-        Event::ARRIVAL => Edit {
+    let stays = Edit {
+        task,
+        group,
+        turn: Turn::Stay,
+        next: Limit::NOBODY,
+    };
+    match Kind::try_from(e.kind) {
+        Ok(Kind::Arrival) => Edit {
             task: arrived(task, clock, due),
             group,
             turn: Turn::Arrive,
             next: Limit::NOBODY,
         },
-        Event::FINISH => Edit {
+        Ok(Kind::Finish) => Edit {
             task: departed(task),
             group,
             turn: Turn::Leave,
             next: Limit::NOBODY,
         },
-        Event::REQUEST => request(kinds, task, group, e.task, e.resource),
-        Event::COMPLETION => complete(kinds, task, group, e.resource),
-        _ => Edit {
-            task,
-            group,
-            turn: Turn::Stay,
-            next: Limit::NOBODY,
-        },
+        Ok(Kind::Request) => request(kinds, task, group, e.task, e.resource),
+        Ok(Kind::Completion) => complete(kinds, task, group, e.resource),
+        Ok(Kind::Passing) => stays,
+        Err(_) => stays,
     }
 }
 

@@ -30,8 +30,7 @@ const SUSPENDED_OTHERWISE: u8 = 5;
 pub fn totals_of(tasks: [Task; Setup::TASKS]) -> [u32; ALL_TOTALS]
     ensures { result ≡ totals_in tasks }
 {
-    // By index, here and in `with_totals`: with array::from_fn the proof did not close, as a record that is read in a
-    // closure is not known to be in the array.
+    // By index, here and in `with_totals`: with `array::from_fn` the proof was tried and did not close.
     let mut totals = [0u32; ALL_TOTALS];
     for k in 0..ALL_TOTALS {
         let task = tasks[k / Task::TOTALS];
@@ -139,6 +138,7 @@ pub fn charge(
         ≡ charged_to ticks stands (total_with stands ahead p) totals.old count }
 {
     let places = places_of(p);
+    // By a task's number, which is its place in four tables.
     for t in 0..count {
         let stand = stands[t];
         if stand != Task::ABSENT {

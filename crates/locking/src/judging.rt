@@ -1,5 +1,5 @@
 // The refusals 9 to 26 of an event.
-ghost use Rattle.std.specs.Prelude.{◌≡◌, ◌≤◌, true, get_or, length, take};
+ghost use Rattle.std.specs.Prelude.{◌≡◌, ◌≤◌, true, get_or, length};
 ghost use Rattle.search.specs.Below.{any_below};
 ghost use Rattle.numbers.specs.Answers.{answer_of};
 ghost use Rattle.numbers.specs.Rows.{first_of};
@@ -117,7 +117,7 @@ fn judge_completion(requests: &[u8], r: u8) -> Result<(), Refusal>
     }
 }
 
-// 16 to 26: what the event's kind asks of its task.
+// 16 to 26: what the event's kind asks of its task. By the kind's number, as the rows compare it, some with a range.
 fn judge_kind(
     setup: Setup,
     clock: u32,
@@ -164,7 +164,7 @@ fn judge_sound(
 }
 
 // The first of 9 to 26 that applies, from what an event depends on: the set-up, the clock, the record of the event's
-// task and the processors. `naming` has the name of each resource's group, and `sound` says whether the state is
+// task and the processors. They are passed apart, here and above, since a call has them from a state or from a session. `naming` has the name of each resource's group, and `sound` says whether the state is
 // sound; if it is not, nothing else is read.
 pub fn judge_parts(
     setup: Setup,

@@ -1,4 +1,7 @@
 // Locking: sessions stepped by events. Every public function is defined for any content, by the rules of `protocol`.
+//
+// What private functions require of a task, a place or a depth holds of an accepted event on a sound state (`CanAct` in
+// specs/Acting). No type can say it, since a state and an event may hold any number.
 #![tactic(auto)]
 
 mod acting;

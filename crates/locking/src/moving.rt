@@ -14,7 +14,7 @@ use processors::{Jobs, Processors};
 use protocol::{Group, Task};
 
 // What moves and charges look up of each task: its own rank, its mode and its standing's number. It is kept up to
-// date from event to event, so that no event has to read every record.
+// date from event to event, so that no event has to read every record. Three tables, as each is lent alone.
 #[derive(Clone, Copy)]
 pub struct Kept {
     pub own: [u64; Setup::TASKS],

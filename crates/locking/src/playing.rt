@@ -26,6 +26,7 @@ pub fn play(state: State, part: &[u8], out: &mut [u8]) -> Played
     let count = input::event_count(part).min(room);
     let mut session = Session::begin(state);
     let mut at = 0;
+    // By an event's number, which gives its place in the part.
     for i in 0..count {
         let taken = session.take(input::event_at(part, i));
         let snapshot = states::snapshot_of(numbers::answer_of(&taken), session.state.processors);

@@ -17,8 +17,8 @@ fn is_lower(stand: u8, rank: u64, other: u64) -> bool
     (stand != Task::ABSENT) & (rank < other)
 }
 
-// How many of the first `count` tasks outrank task `t`. Here and below the tables are lent apart, and gone through by
-// a task's number: a session lends `ahead` to be changed beside them, and a task is told from `t` by its number.
+// How many of the first `count` tasks outrank task `t`. Here and below the tables are gone through by a task's number,
+// which is its place in each; they are lent apart, as the definitions over them have them (`Ranked`).
 fn ahead_of(stands: &[u8; Setup::TASKS], own: &[u64; Setup::TASKS], count: usize, t: usize) -> u8
     requires { (count ≤ most_tasks) × (t < most_tasks) }
     ensures { result ≡ ahead_of stands.now own.now count t }
@@ -88,7 +88,7 @@ fn correct(
 }
 
 // Brings `ahead` up to date, where task `t` had the record `task`, if `again` says that its job arrived, finished or
-// suspended.
+// suspended. That is tested here and not by the caller, whose proof would have to join two branches.
 pub fn rank_again<'a>(
     ahead: &mut [u8],
     stands: &'a [u8; Setup::TASKS],

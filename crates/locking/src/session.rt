@@ -42,10 +42,8 @@ impl Session {
         let tested = soundness::test(state);
         let naming = tested.naming;
         let setup = state.setup;
-        let kinds = setup.kinds;
-        let tasks = state.tasks;
-        let totals = totals_of(tasks);
-        let kept = kept_of(kinds, tasks);
+        let totals = totals_of(state.tasks);
+        let kept = kept_of(setup.kinds, state.tasks);
         let ahead = all_ahead(&kept.stands, &kept.own, setup.tasks);
         Session {
             state,
@@ -97,9 +95,7 @@ impl Session {
     {
         self.state.tasks[t as usize] = task;
         self.state.groups[g] = group;
-        let kinds = self.state.setup.kinds;
-        let kept = keep(self.kept, kinds, task, t);
-        self.kept = kept;
+        self.kept = keep(self.kept, self.state.setup.kinds, task, t);
     }
 
     // Task `t` makes the move `turn`.
@@ -108,9 +104,14 @@ impl Session {
             → first_modes self.old.state.setup.tasks self.old.kept.modes ≡ self.old.kept.modes }
         ensures { self.new ≡ turned_in (turn_no turn) t self.old }
     {
-        let p = self.state.processors;
-        let groups = self.state.groups;
-        self.state.processors = moved(turn, p, self.kept, self.state.setup, groups, t);
+        self.state.processors = moved(
+            turn,
+            self.state.processors,
+            self.kept,
+            self.state.setup,
+            self.state.groups,
+            t,
+        );
     }
 
     // An accepted event.

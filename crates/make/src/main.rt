@@ -126,6 +126,7 @@ impl<'a, O: Write, T: Write> Maker<'a, O, T> {
 
     // Makes the file of the whole scenario.
     fn make_file(&mut self, input: &mut impl Read) -> Result<(), Ended> {
+        // There is no heap: what is read and not yet taken is the buffer's first `held` bytes.
         let mut text = [0u8; TEXT];
         let mut held = 0;
         for _ in 0..MOST_TURNS {

@@ -23,7 +23,8 @@ impl Limit {
     pub const PAIRS: usize = 64;
     // Open requests of a job.
     pub const REQUESTS: usize = 8;
-    // No task, and no resource: what an empty place holds.
+    // No task, and no resource: what an empty place holds. A number and no `Option`, as snapshots and states of any
+    // content have it (`nobody`).
     pub const NOBODY: u8 = 255;
 
     pub const NOTHING: u8 = Limit::NOBODY;

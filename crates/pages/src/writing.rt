@@ -34,6 +34,7 @@ pub fn put_events(
         × (result ≤ line_limit * count) }
 {
     let mut at = 0;
+    // By an event's number, which is printed too.
     for i in 0..count {
         let number = events.wrapping_add(i as u64 + 1);
         let from = State::SNAPSHOT * i;

@@ -55,6 +55,7 @@ impl OrderedJobs {
     fn lowest_linked(&self, p: Processors) -> usize
         ensures { result ≡ lowest_in self.now.order p self.now.order.pending }
     {
+        // A plain loop: a chain of `rev`, `map` and `find` is no plainer.
         for i in (0..self.order.pending).rev() {
             let k = link_of(p, self.task_at(i));
             if k < Processors::LIMIT {
@@ -136,7 +137,7 @@ impl OrderedJobs {
         }
     }
 
-    // The same, with the job of `t` asleep.
+    // These jobs, with that of `t` asleep.
     pub fn with_asleep(&self, t: u8) -> OrderedJobs
         ensures { result ≡ record { order = self.now.order; modes = asleep_in self.now.modes t } }
     {
@@ -158,7 +159,7 @@ fn lowest_free(p: Processors) -> usize
         .unwrap_or(Processors::LIMIT)
 }
 
-// Processor `k` is unlinked.
+// Processor `k` is unlinked. The scheduler has the same to itself: this engine calls none of its functions.
 fn is_free(p: Processors, k: usize) -> bool
     ensures { result ≡ is_free p k }
 {

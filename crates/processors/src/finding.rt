@@ -41,7 +41,8 @@ pub fn runs_at(p: Processors, k: usize) -> u8
     numbers::number_at(&p.running, k)
 }
 
-// The first processor with task `t` in a list of the processors' tasks, or `Processors::LIMIT`.
+// The first processor with task `t` in a list of the processors' tasks, or `Processors::LIMIT`: none is a number past
+// the processors, as `link_of` and `run_of` promise it.
 fn place_of(tasks: &[u8; Processors::LIMIT], t: u8) -> usize
     ensures { result ≡ place_of tasks.now t }
 {

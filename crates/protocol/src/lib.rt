@@ -32,8 +32,9 @@ pub enum Situation {
     Suspended,
 }
 
-// A task's record. `last` is the clock of the last arrival, if the task has `arrived` at all. The open requests are
-// the first `depth`, oldest first. A session has fixed memory, and a state may hold any depth, so it stays beside them.
+// A task's record. `last` is the clock of the last arrival, if the task has `arrived` at all; two fields, as the rules
+// read each of them in states of any content (`times_sound`, `empty_sound`). The open requests are the first `depth`,
+// oldest first. A session has fixed memory, and a state may hold any depth, so the depth stays beside them.
 #[derive(Clone, Copy, PartialEq, Eq)]
 pub struct Task {
     pub standing: Standing,
@@ -51,7 +52,8 @@ impl Task {
     // How many totals there are: running, spinning, linked but not running, ready, direct blocking, suspended
     // otherwise.
     pub const TOTALS: usize = 6;
-    // The numbers of the standings: no job, active, spinning on a short group, suspended on a long one.
+    // The numbers of the standings: no job, active, spinning on a short group, suspended on a long one. They are those of
+    // the rules (`standing_no`), by which the sound state compares them, and a table of them takes a byte a task.
     pub const ABSENT: u8 = 0;
 
     pub const ACTIVE: u8 = 1;
@@ -61,7 +63,8 @@ impl Task {
     pub const SUSPENDED: u8 = 3;
 }
 
-// A lock's record. It is at the place of the group's lowest resource.
+// A lock's record. It is at the place of the group's lowest resource. The holder may be any number in a state, so it is
+// no `Option` (`group_sound`).
 #[derive(Clone, Copy, PartialEq, Eq)]
 pub struct Group {
     pub holder: u8,

@@ -77,7 +77,7 @@ impl Queue {
         }
     }
 
-    // The first place at which `task` waits, or the capacity.
+    // The first place at which `task` waits, or the capacity: none is a number past the places, as the rule has it.
     pub fn place_of(self, task: u8) -> usize
         ensures { result ≡ place_of self task }
     {

@@ -21,7 +21,7 @@ fn no_events() -> Events
     }
 }
 
-// The events, and `e` after them.
+// The events, and `e` after them. Its callers have made room, so it refuses nothing, as `put` of a set-up's tables may.
 fn with_event(events: Events, e: Event) -> Events
     requires { events.count < most_events }
     ensures { result ≡ adding e events }

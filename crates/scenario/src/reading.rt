@@ -25,7 +25,7 @@ fn split_at_first<F: Fn(u8) -> bool>(l: &[u8], passes: F) -> (&[u8], &[u8])
     l.split_at(at)
 }
 
-// How much of a line is read: all before its remark, without a carriage return at its end.
+// What of a line is read: all before its remark, without a carriage return at its end.
 pub fn said(line: &[u8]) -> &[u8]
     ensures { result.now ≡ said line.now }
 {
@@ -120,7 +120,7 @@ pub struct Words<'a> {
 }
 
 impl<'a> Words<'a> {
-    // The first word by `read`; or the reason that it is not of its sort. It is left to read no more.
+    // The first word by `read`; or the reason that it is not of its sort. It is taken off.
     fn next<T, F: Fn(&[u8]) -> Option<T>>(&mut self, sort: Sort, read: F) -> Result<T, Reason>
         requires { F.IsAlwaysCallable read }
         ensures word { MatchResult result

@@ -19,7 +19,9 @@ pub fn put<T: Copy>(table: &mut [T], count: usize, one: T) -> Result<usize, Reas
     Ok(count + 1)
 }
 
-// The set-up with one task more.
+// The set-up with one task more. This and the next two differ in the table and its count: with both passed in, nothing
+// would be left of them but `put`.
+//
 pub fn with_task(setup: Setup, period: u16) -> Result<Setup, Reason>
     ensures { MatchResult result (λ next. (setup.tasks < most_tasks) × (next ≡ with_task setup period))
         (λ reason. (most_tasks ≤ setup.tasks) × (reason ≡ Reason.Full)) }

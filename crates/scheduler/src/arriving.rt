@@ -15,7 +15,8 @@ fn is_free(p: Processors, k: usize) -> bool
     (k < p.count) & (link_at(p, k) == Limit::NOBODY)
 }
 
-// The unlinked processors: bit k is processor k. From the last to the first, as each turn shifts the bits so far up.
+// The unlinked processors, the mask that the specification asks for: bit k is processor k. From the last to the first,
+// as each turn shifts the bits so far up.
 fn free_mask(p: Processors) -> u32
     ensures { result ≡ mask (is_free p) 0 most_processors }
 {

@@ -3,8 +3,8 @@
 
 ghost use Rattle.std.specs.Prelude.{◌≡◌, if◌then◌else◌, get_or};
 
-// A choice between two values of any type: `here` where the test passes, else `behind`. The searches and the lists of
-// refusals of this repository no longer need it, as they stop at the first that passes; its promise stands for callers.
+// A choice between two values of any type: `here` where the test passes, else `behind`. Nothing here calls it; it
+// stands for callers.
 pub fn pick<T: Copy>(passes: bool, here: T, behind: T) -> T
     ensures { result ≡ (if passes then here else behind) }
 {

@@ -41,7 +41,8 @@ fn has_other_kind(setup: &Setup) -> bool
         .any(|kind| Setup::LONG < *kind)
 }
 
-// The kind of resource `r`; 0 past the table.
+// The kind of resource `r`; 0 past the table. `states::kind_at` reads the same off a table alone, for callers above
+// that have no set-up at hand.
 pub fn kind_of(setup: &Setup, r: u8) -> u8
     ensures { result ≡ kind setup.now r }
 {

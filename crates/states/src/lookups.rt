@@ -1,4 +1,4 @@
-// Tables of numbers, by task, by resource or by place: what is at a place, past the table too.
+// Tables of numbers, by task or by resource: what is at a place, past the table too.
 ghost use Rattle.std.specs.Prelude.{◌≡◌, get_or};
 ghost use Rattle.search.specs.Words.{◌is◌};
 ghost use Rattle.search.specs.Below.{any_below};

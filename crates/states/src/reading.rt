@@ -61,6 +61,7 @@ pub fn snapshot_of(answer: u8, p: Processors) -> [u8; State::SNAPSHOT]
     ensures { result ≡ snapshot_of answer p }
 {
     let mut snapshot = [answer; State::SNAPSHOT];
+    // By a processor's number, which gives two places of the snapshot.
     for k in 0..Processors::LIMIT {
         snapshot[2 * k + 1] = processors::link_at(p, k);
         snapshot[2 * k + 2] = processors::runs_at(p, k);

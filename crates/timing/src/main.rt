@@ -14,15 +14,25 @@ use protocol::State;
 use std::io;
 use std::io::Read;
 
-// What is called, as an order says it: a step, a sound test, a block's check, or the verdict on it. For any other byte
-// nothing is called.
-const STEPS: u8 = b's';
+// What is called: a step, a sound test, a block's check, or the verdict on it.
+#[derive(Clone, Copy)]
+enum Call {
+    Step,
+    Test,
+    Check,
+    Verdict,
+}
 
-const TESTS: u8 = b't';
-
-const CHECKS: u8 = b'c';
-
-const VERDICTS: u8 = b'v';
+// What an order's byte asks for, if anything.
+fn call_of(order: u8) -> Option<Call> {
+    match order {
+        b's' => Some(Call::Step),
+        b't' => Some(Call::Test),
+        b'c' => Some(Call::Check),
+        b'v' => Some(Call::Verdict),
+        _ => None,
+    }
+}
 
 // How many calls an order counts as one.
 const CALLS: u64 = 100;
@@ -118,24 +128,30 @@ fn call_with<F: Fn(&[u8]) -> bool>(given: [u8; Block::SIZE], calls: u64, passes:
     passed
 }
 
-// Makes the calls of an order; returns how many of them passed.
-fn follow(what: u8, state: State, block: [u8; Block::SIZE], index: u64, calls: u64) -> u64 {
+// Makes the calls of an order; returns how many of them passed. Where the order asks for nothing, nothing is called.
+fn follow(
+    what: Option<Call>,
+    state: State,
+    block: [u8; Block::SIZE],
+    index: u64,
+    calls: u64,
+) -> u64 {
     match what {
-        STEPS => {
+        Some(Call::Step) => {
             let part = blocks::used_part(&block, blocks::judge_block(&block, index).ok());
             make_steps(state, part, calls)
         }
-        TESTS => make_tests(state, calls),
-        CHECKS => {
+        Some(Call::Test) => make_tests(state, calls),
+        Some(Call::Check) => {
             let own = blocks::check_of(&block);
             call_with(block, calls, |given| blocks::check_of(given) == own)
         }
-        VERDICTS => call_with(
+        Some(Call::Verdict) => call_with(
             block,
             calls,
             |given| blocks::judge_block(given, index).is_ok(),
         ),
-        _ => 0,
+        None => 0,
     }
 }
 
@@ -161,7 +177,7 @@ fn follow_all(
             break;
         };
         let calls = CALLS * u64::from(input::word_of(order[1], order[2]));
-        println!(rt; "{}", follow(order[0], state, block, index, calls))?;
+        println!(rt; "{}", follow(call_of(order[0]), state, block, index, calls))?;
     }
     Ok(())
 }

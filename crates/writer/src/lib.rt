@@ -10,7 +10,8 @@ pub use event_blocks::{events_from, write_events};
 use input::Event;
 pub use setup_blocks::write_setup;
 
-// The events of one block. Places past the count are not read.
+// The events of one block. Places past the count are not read. There is no heap, and any count gets an answer
+// (`events_written`), so the count stands beside the events.
 #[derive(Clone, Copy)]
 pub struct Events {
     pub of: [Event; Events::MOST],

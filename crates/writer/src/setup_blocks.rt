@@ -11,7 +11,8 @@ use input::Setup;
 use numbers::Refusal;
 use std::array;
 
-// The four counts.
+// The four counts. Here and below `Counted`, that they fit a byte, is asked for: it is so of a set-up that is not refused,
+// and no fact of the type, as any set-up gets an answer.
 fn count_bytes(setup: &Setup) -> [u8; Setup::START_AT]
     requires { Counted setup.now }
     ensures { result ≡ spec.count_bytes setup.now }
@@ -78,7 +79,7 @@ fn setup_byte(setup: &Setup, i: usize) -> u8
     0
 }
 
-// The payload.
+// The payload: one line, as that of events is, which a function over both would only rename.
 fn setup_payload(setup: &Setup) -> [u8; PAYLOAD]
     requires { Counted setup.now }
     ensures { result ≡ setup_payload setup.now }
