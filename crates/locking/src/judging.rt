@@ -164,8 +164,9 @@ fn judge_sound(
 }
 
 // The first of 9 to 26 that applies, from what an event depends on: the set-up, the clock, the record of the event's
-// task and the processors. They are passed apart, here and above, since a call has them from a state or from a session. `naming` has the name of each resource's group, and `sound` says whether the state is
-// sound; if it is not, nothing else is read.
+// task and the processors. They are passed apart, here and above, since a call has them from a state or from a session.
+// `naming` has the name of each resource's group, and `sound` says whether the state is sound; if it is not, nothing
+// else is read.
 pub fn judge_parts(
     setup: Setup,
     clock: u32,
