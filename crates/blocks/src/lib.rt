@@ -29,7 +29,8 @@ impl Block {
     pub const LAST_INDEX: u64 = 999999;
 
     pub const NUMBERS: u64 = 65536;
-    // The numbers of the kinds of block in the format, which the code goes by as `BlockKind`; and the most events in one.
+    // The numbers of the kinds of block in the format, which the code goes by as `BlockKind`; and the most events in
+    // one.
     pub const SETUP: u8 = 1;
 
     pub const EVENTS: u8 = 2;

@@ -1,5 +1,5 @@
-// What every function answers on a state. On each hostile one it is 9, at once; the state that goes with that is the one
-// that was given, and the rows print it as they print the state after any other event.
+// What every function answers on a state. On each hostile one it is 9, at once; the state that goes with that is the
+// one that was given, and the rows print it as they print the state after any other event.
 //
 // A state and what is printed of it, `which`, are passed side by side: a struct of both would be taken apart at once.
 use crate::hostile::{Place, hostile, hostile_throughout};

@@ -52,8 +52,8 @@ impl Task {
     // How many totals there are: running, spinning, linked but not running, ready, direct blocking, suspended
     // otherwise.
     pub const TOTALS: usize = 6;
-    // The numbers of the standings: no job, active, spinning on a short group, suspended on a long one. They are those of
-    // the rules (`standing_no`), by which the sound state compares them, and a table of them takes a byte a task.
+    // The numbers of the standings: no job, active, spinning on a short group, suspended on a long one. They are those
+    // of the rules (`standing_no`), by which the sound state compares them, and a table of them takes a byte a task.
     pub const ABSENT: u8 = 0;
 
     pub const ACTIVE: u8 = 1;

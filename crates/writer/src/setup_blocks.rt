@@ -11,8 +11,8 @@ use input::Setup;
 use numbers::Refusal;
 use std::array;
 
-// The four counts. Here and below `Counted`, that they fit a byte, is asked for: it is so of a set-up that is not refused,
-// and no fact of the type, as any set-up gets an answer.
+// The four counts. Here and below `Counted`, that they fit a byte, is asked for: it is so of a set-up that is not
+// refused, and no fact of the type, as any set-up gets an answer.
 fn count_bytes(setup: &Setup) -> [u8; Setup::START_AT]
     requires { Counted setup.now }
     ensures { result ≡ spec.count_bytes setup.now }
