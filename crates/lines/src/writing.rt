@@ -10,8 +10,8 @@ ghost use Rattle.lines.specs.Texts.{task_text, place_text, totals_text};
 use numbers::Limit;
 use protocol::Task;
 
-// Numbers are written here and not by `Display`: what a line holds is a definition of specs/ (`decimal`), and the line of
-// each event is made so.
+// Numbers are written here and not by `Display`: what a line holds is a definition of specs/ (`decimal`), and each
+// event's line is made so.
 //
 // Enough digits for every number of 64 bits.
 const MOST_DIGITS: u8 = 20;
