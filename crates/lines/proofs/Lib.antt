@@ -1,4 +1,3 @@
-pub mod Written
 pub mod Laws
 pub mod Pens
 pub mod Lines

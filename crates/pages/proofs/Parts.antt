@@ -5,7 +5,7 @@ use lib.Seq.{take-set-le, drop-set-add, take-append_seam, sets, sets-eq}
 use Rattle.std.specs.Result.{result_unwrap_or}
 use Rattle.states.specs.Writing.{written}
 use Rattle.numbers.specs.declared.answers.Refusal.{Refusal}
-use Rattle.lines.proofs.Written.{written_parts}
+use Rattle.states.proofs.Writing.{written_parts}
 use Rattle.lines.specs.Buffers.{Put, line_limit, line_into, narrow}
 use Rattle.lines.specs.Lines.{line_from}
 

@@ -1,6 +1,6 @@
 use Rattle.std.proofs.Common.{refl, arith}
 use Rattle.lines.proofs.Pens.{wrote_text}
-use Rattle.lines.proofs.Written.{written_part}
+use Rattle.states.proofs.Writing.{written_part}
 use Rattle.lines.proofs.writing.Pen.put_text.Goals as goal
 
 pub returns-clause-wrote : goal.returns-clause-wrote
