@@ -41,6 +41,7 @@ PARTS = {
         'scenario': 'Words Arguments Items SetupItems Outcomes Drafts',
     },
     'statements': {
+        'search': 'Views',
         'numbers': 'Numbered',
         'queue': 'Tidy',
         'scheduler': 'Placed',

@@ -1,7 +1,6 @@
 // RULES.md, 'The worked cases': the set-up of the printed case, and its state after five events.
 use input::{Event, Setup};
-use numbers::Limit;
-use plain::{Order, Plain};
+use plain::Plain;
 use protocol::State;
 
 // The set-up of the printed case, with this many processors.
@@ -23,15 +22,9 @@ pub fn begun(setup: Setup) -> State {
     states::begin(setup).unwrap_or(states::empty())
 }
 
-// The same on the plain engine. In the empty state nobody is pending.
+// The same on the plain engine.
 pub fn begun_plain(setup: Setup) -> Plain {
-    plain::begin(setup).unwrap_or(Plain {
-        state: states::empty(),
-        order: Order {
-            tasks: [Limit::NOBODY; Setup::TASKS],
-            pending: 0,
-        },
-    })
+    plain::begin(setup).unwrap_or(plain::empty())
 }
 
 // The state that the printed case begins with, on this many processors.

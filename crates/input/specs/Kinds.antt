@@ -45,9 +45,9 @@ kind_number Request = request
 kind_number Completion = completion
 kind_number Passing = passing
 
--- the result is the kind of event with this number, or none has it
+-- the result is the kind of event with this number, or an error with a number that no kind has
 abbrev pub Decodes : ℕ → Result Kind UnknownKind → Type 0
-Decodes n r = MatchResult r (λ kind. kind_number kind ≡ n) (λ e. (kind : Kind) → kind_number kind ≢ n)
+Decodes n r = MatchResult r (λ kind. kind_number kind ≡ n) (λ e. (e.0 ≡ n) × ((kind : Kind) → kind_number kind ≢ n))
 
 -- an event of no kind: what is read where there is none
 abbrev pub no_event : Event

@@ -4,3 +4,4 @@ pub mod Lines
 pub mod Lengths
 pub mod Values
 pub mod Numbers
+pub mod Apart

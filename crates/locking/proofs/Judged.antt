@@ -62,16 +62,23 @@ kind_rows c clock k p naming e =
     25 when e.kind is completion && (k.depth is 0 || get_or k.requests (k.depth - 1) nothing isn't e.resource) otherwise
     []
 
--- one answer gives what the situation's four rows give
+-- one row gives what the situation's four rows give
+pub situation_row : (b : Bool) (x : Situation) (later : ℕ)
+    → (if b && situation_refusal x isn't 0 then situation_refusal x else later)
+    ≡ (if b && situation_refusal x is 18 then 18 else if b && situation_refusal x is 26 then 26 else if b && situation_refusal x is 19 then 19 else if b && situation_refusal x is 20 then 20 else later)
+situation_row false x later = refl
+situation_row true NoJob later = refl
+situation_row true Running later = refl
+situation_row true Spinning later = refl
+situation_row true LinkedOnly later = refl
+situation_row true Ready later = refl
+situation_row true Suspended later = refl
+
+-- .. and so does one answer before the others
 situation_rows : (x : Situation) (later : ℕ)
     → situation_refusal x or_then later
     ≡ (if situation_refusal x is 18 then 18 else if situation_refusal x is 26 then 26 else if situation_refusal x is 19 then 19 else if situation_refusal x is 20 then 20 else later)
-situation_rows NoJob later = refl
-situation_rows Running later = refl
-situation_rows Spinning later = refl
-situation_rows LinkedOnly later = refl
-situation_rows Ready later = refl
-situation_rows Suspended later = refl
+situation_rows = situation_row true
 
 -- a kind that is none of those numbers, between those
 beside : (k : ℕ) → k ≢ finish → k ≢ asking → k ≢ completion → within finish k completion ≡ false

@@ -1,7 +1,7 @@
 // What is said on standard error about a scenario that is not made. Where not even that can be written, nobody is told.
 use numbers::Refusal;
 use scenario::{Reason, Trouble};
-use std::io::Write;
+use std::io::{Cursor, Write};
 
 // What is wrong with a line, by the number of the reason.
 fn say_reason(to: &mut impl Write, number: u8) {
@@ -10,6 +10,9 @@ fn say_reason(to: &mut impl Write, number: u8) {
         Err(unknown) => write!(to, "{unknown}"),
     };
 }
+
+// Room for what is said of a refused set-up or block: the longest has 88 bytes.
+const REFUSED: usize = 128;
 
 // A refused set-up, or a block past the last index.
 fn say_refused(to: &mut impl Write, refusal: Refusal) {
@@ -22,7 +25,12 @@ fn say_refused(to: &mut impl Write, refusal: Refusal) {
         _ => "block",
     };
     let number = u8::from(refusal);
-    let _ = writeln!(to, "{what} refused {number}: {refusal}");
+    // It goes out in one write, so that nothing of another program's comes between its parts.
+    let mut text = [0u8; REFUSED];
+    let mut cursor = Cursor::new(&mut text[..]);
+    let _ = writeln!(cursor, "{what} refused {number}: {refusal}");
+    let len = cursor.position() as usize;
+    say(to, &text[..len.min(REFUSED)]);
 }
 
 // A faulty line, with the reason; or the block that it completes is refused.

@@ -44,6 +44,7 @@ abbrev pub answer_of : {T : Type 0} → Result T Refusal → ℕ
 answer_of (Ok value) = 0
 answer_of (Err refusal) = number_of refusal
 
--- the result is the refusal with this number, or none has it
+-- the result is the refusal with this number, or an error with a number that no refusal has
 abbrev pub Decodes : ℕ → Result Refusal UnknownRefusal → Type 0
-Decodes n r = MatchResult r (λ refusal. number_of refusal ≡ n) (λ e. (refusal : Refusal) → number_of refusal ≢ n)
+Decodes n r =
+    MatchResult r (λ refusal. number_of refusal ≡ n) (λ e. (e.0 ≡ n) × ((refusal : Refusal) → number_of refusal ≢ n))

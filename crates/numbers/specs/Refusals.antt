@@ -1,4 +1,4 @@
--- RULES.md, 'Numbers handed back': each number of the list by name, as in the constants of `Refusal`.
+-- RULES.md, 'Numbers handed back': each number of the list by name, as the code's `Refusal` has it.
 use Rattle.std.specs.Prelude.{ℕ}
 
 -- ---- of a set-up

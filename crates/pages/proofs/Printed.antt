@@ -1,7 +1,9 @@
 -- A page out of the text that was put into its buffer: of any text, of one line, and of a line for each event. Assumes nothing.
-use Rattle.std.proofs.Common.{◌≡◌, ℕ, ◌+◌, ◌*◌, ◌/◌, ◌%◌, ◌<◌, ◌≤◌, min, false, List, ◌++◌, length, length-append, take, drop, ap, ◌∙◌, arith, le-ltb, lt-ltb, Result, take-append-drop}
+use Rattle.std.proofs.Common.{◌≡◌, ℕ, ◌+◌, ◌*◌, ◌/◌, ◌%◌, ◌<◌, ◌≤◌, min, false, List, ◌++◌, length, length-append, take, drop, ap, sym, ◌∙◌, arith, le-ltb, lt-ltb, Result, Ok, Err, take-append-drop}
 use native.Mathlib.Decide.{dec_lt}
-use Rattle.search.proofs.Determined.{determined}
+use Rattle.search.specs.Views.{TellsApart}
+use Rattle.search.proofs.Determined.{seen_beside}
+use Rattle.numbers.proofs.Apart.{numbers_apart, numbered}
 use Rattle.input.specs.Layout.{event_count}
 use Rattle.protocol.specs.declared.State.{State}
 use Rattle.states.specs.Writing.{snapshot_size}
@@ -15,7 +17,7 @@ use Rattle.lines.specs.Lines.{line_from}
 use Rattle.std.specs.Result.{result_unwrap_or}
 use Rattle.numbers.specs.declared.answers.Refusal.{Refusal}
 use Rattle.pages.specs.declared.Page.{Page as PageGiven}
-use Rattle.pages.specs.Pages.{wide, events_text, event_page, page_limit, paged, page_into, PageNumbers}
+use Rattle.pages.specs.Pages.{wide, events_text, event_page, page_limit, paged, page_into, page_from, PageNumbers}
 use Rattle.pages.specs.declared.Session.{Session}
 use Rattle.pages.specs.Pages.{Page}
 use Rattle.pages.proofs.Parts.{line_given, written_front}
@@ -78,12 +80,19 @@ page_events x part buffer out {done} {filled} {events} {len} {after} few fits ro
     let same = lines_back x.state part buffer x.state.setup.processors x.events (event_count part) (omega (arith, few, fits)) in
     page_put _ out (rw (kept, numbered, counted)) (rw (counted, bytes, same) at put) (omega (arith, few, room, counted, short))
 
--- ---- what the contract of `next_page` allows is one result
-abbrev pub Allowed : Session → List ℕ → List ℕ → Page × List ℕ → Type 0
-Allowed x read out r = (r ≡ page_into x read out) × (r.0.len ≤ length r.1)
+-- ---- what the code returns of a page is fixed by the page's session, number and length
+pub pages_apart : (x : Session) → TellsApart (page_from x)
+pages_apart x (Ok page) (Ok other) e = ap (λ (y : Page). Ok (record { session = y.session; len = y.len })) e
+pages_apart x (Ok page) (Err q) e = absurd (numbered q (sym (ap (λ (y : Page). y.number) e)))
+pages_apart x (Err r) (Ok other) e = absurd (numbered r (ap (λ (y : Page). y.number) e))
+pages_apart x (Err r) (Err q) e = ap Err (numbers_apart r q (ap (λ (y : Page). y.number) e))
 
-pub next_page_determined : (x : Session) (read out : List ℕ) (r q : Page × List ℕ) → Allowed x read out r → Allowed x read out q → r ≡ q
-next_page_determined x read out r q a b = determined r q a.0 b.0
+-- so what the contract of `next_page` allows is one result
+abbrev pub Allowed : Session → List ℕ → List ℕ → Result PageGiven Refusal × List ℕ → Type 0
+Allowed x read out r = ((page_from x r.0, r.1) ≡ page_into x read out) × ((page_from x r.0).len ≤ length r.1)
+
+pub next_page_determined : (x : Session) (read out : List ℕ) (r q : Result PageGiven Refusal × List ℕ) → Allowed x read out r → Allowed x read out q → r ≡ q
+next_page_determined x read out r q a b = seen_beside (page_from x) (pages_apart x) r q a.0 b.0
 
 -- and its number says whether the buffer was long enough
 module _ (x : Session) (read out : List ℕ) where

@@ -4,3 +4,4 @@ pub mod Placing
 pub mod Sessions
 pub mod Agreement
 pub mod Parts
+pub mod Apart

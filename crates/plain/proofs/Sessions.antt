@@ -72,11 +72,14 @@ unfolding fresh
 fresh_order c few = order_ruled (fresh c) (length-replicate most_tasks no_task)
     (within_bounds (fresh c) few (λ t _. omega (arith, ap (λ (x : Task). x.deadline) (replicate_at most_tasks t no_task))))
 
+pub empty_order : order_in (fresh no_setup) ≡ order_of (fresh no_setup)
+empty_order = fresh_order no_setup (omega arith)
+
 pub begun_order : (c : Setup) → order_in (begin c).state ≡ order_of (begin c).state
 unfolding begin cleared
 begun_order c = elim (ℕ_discrete (setup_refusal c) 0) [
   | yes q ↦ rw (eq-eqb _ _ q) (fresh_order (cleared c) (accepted_grouped c q).few_resources)
-  | no q ↦ rw (ne_eqb _ _ q) (fresh_order no_setup (omega arith))
+  | no q ↦ rw (ne_eqb _ _ q) empty_order
 ]
 
 -- an event is stepped by the rules where the session is in the order of its state

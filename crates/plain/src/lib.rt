@@ -13,7 +13,7 @@ mod stepping;
 use input::Setup;
 pub use playing::play;
 use protocol::State;
-pub use stepping::{begin, step};
+pub use stepping::{begin, empty, step};
 
 // The pending jobs, suspended ones too, by effective priority: the tasks in the first `pending` places, the
 // highest-priority one first. The other places have nobody. As memory is fixed, this is an array with room for all

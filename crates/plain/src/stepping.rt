@@ -16,6 +16,15 @@ use numbers::{Limit, Refusal};
 use processors::Processors;
 use protocol::{Lock, Standing, State};
 
+// The empty session, that of no set-up, which stands for a set-up that is refused: nobody is pending.
+pub fn empty() -> Plain
+    ensures { result ≡ ordered (fresh no_setup) }
+{
+    let state = states::empty();
+    let order = order_of(state);
+    Plain { state, order }
+}
+
 // The session that a set-up begins with, or its refusal.
 pub fn begin(setup: Setup) -> Result<Plain, Refusal>
     ensures { plain_reply_from (ordered (fresh no_setup)) result ≡ plain_begin setup }

@@ -6,3 +6,4 @@ pub mod Demands
 pub mod Theorems
 pub mod WitnessCases
 pub mod Impostors
+pub mod Apart

@@ -90,7 +90,8 @@ impl Queue {
     pub fn is_tidy(self) -> bool
         ensures { result ≡ is_tidy self }
     {
-        self.len <= Queue::CAPACITY && (0..Queue::CAPACITY).all(|i| self.is_clear(i))
+        let fits = self.len <= Queue::CAPACITY;
+        fits && (0..Queue::CAPACITY).all(|i| self.is_clear(i))
     }
 
     // Place `i` is before the length, or empty.

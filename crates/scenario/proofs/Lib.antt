@@ -3,3 +3,4 @@ pub mod Filling
 pub mod Made
 pub mod Taking
 pub mod Words
+pub mod Apart

@@ -29,4 +29,5 @@ reason_number Missing = missing
 -- the result is the reason with this number, or none has it
 abbrev pub IsReasonOf : ℕ → Result Reason UnknownReason → Type 0
 IsReasonOf n r =
-    MatchResult r (λ reason. reason_number reason ≡ n) (λ e. (reason : Reason) → reason_number reason ≢ n)
+    MatchResult r (λ reason. reason_number reason ≡ n)
+    (λ e. (e.0 ≡ n) × ((reason : Reason) → reason_number reason ≢ n))

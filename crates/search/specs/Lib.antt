@@ -4,3 +4,4 @@ pub mod First
 pub mod Best
 pub mod Table
 pub mod Texts
+pub mod Views

@@ -10,5 +10,5 @@ pub returns-in-Err : goal.returns-in-Err
 unfolding editing
 returns-in-Err c =
     let kind = c.args.e.kind in
-    let none = c.in-Err.ensures in
+    let none = c.in-Err.ensures.1 in
     rw (ne_eqb kind arrival (λ q. none Arrival (sym q)), ne_eqb kind finish (λ q. none Finish (sym q)), ne_eqb kind request (λ q. none Request (sym q)), ne_eqb kind completion (λ q. none Completion (sym q)))

@@ -6,10 +6,10 @@ use Rattle.queue.specs.Limits.{capacity}
 use Rattle.queue.specs.Waiting.{is_tidy}
 use Rattle.queue.proofs.Queue.is_tidy.Goals as goal
 
-pub returns-then-self-le-CAPACITY : goal.returns-then-self-le-CAPACITY
+pub returns-then-fits : goal.returns-then-fits
 unfolding is_tidy
-returns-then-self-le-CAPACITY c = rw (le-leb c.args.self.len capacity (search rules)) (all_in_range c.all.ensures.ran (λ x b q k. search rules))
+returns-then-fits c = rw (le-leb c.args.self.len capacity (search rules)) (all_in_range c.all.ensures.ran (λ x b q k. search rules))
 
-pub returns-else-self-le-CAPACITY : goal.returns-else-self-le-CAPACITY
+pub returns-else-fits : goal.returns-else-fits
 unfolding is_tidy
-returns-else-self-le-CAPACITY c = rw (lt-leb c.args.self.len capacity (search rules))
+returns-else-fits c = rw (lt-leb c.args.self.len capacity (search rules))
