@@ -1,5 +1,5 @@
 -- What the code returns of a line is fixed by its number and its length. Assumes nothing.
-use Rattle.std.proofs.Common.{◌≡◌, ap, sym, Ok, Err}
+use Rattle.std.proofs.Common.{ap, sym, Ok, Err}
 use Rattle.search.specs.Views.{TellsApart}
 use Rattle.numbers.proofs.Apart.{numbers_apart, numbered}
 use Rattle.lines.specs.Lines.{Line, line_from}

@@ -1,5 +1,5 @@
 -- What the plain engine returns of a set-up or an event is fixed by its reply. Assumes nothing.
-use Rattle.std.proofs.Common.{◌≡◌, ap, sym, Ok, Err}
+use Rattle.std.proofs.Common.{ap, sym, Ok, Err}
 use Rattle.search.specs.Views.{TellsApart}
 use Rattle.numbers.proofs.Apart.{numbers_apart, numbered}
 use Rattle.plain.specs.Engine.{PlainReply, plain_reply_from}

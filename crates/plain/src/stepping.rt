@@ -21,8 +21,10 @@ pub fn empty() -> Plain
     ensures { result ≡ ordered (fresh no_setup) }
 {
     let state = states::empty();
-    let order = order_of(state);
-    Plain { state, order }
+    Plain {
+        state,
+        order: order_of(state),
+    }
 }
 
 // The session that a set-up begins with, or its refusal.

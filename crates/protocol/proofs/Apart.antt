@@ -1,5 +1,5 @@
 -- What the code returns of a set-up or an event is fixed by its reply. Assumes nothing.
-use Rattle.std.proofs.Common.{◌≡◌, refl, ap, sym, Ok, Err}
+use Rattle.std.proofs.Common.{ap, sym, Ok, Err}
 use Rattle.search.specs.Views.{TellsApart}
 use Rattle.numbers.proofs.Apart.{numbers_apart, numbered}
 use Rattle.protocol.specs.Replies.{Reply, reply_from}

@@ -1,6 +1,5 @@
 -- What the code returns of an item that was taken is fixed by the draft after it and the outcome. Assumes nothing.
-use Rattle.std.proofs.Common.{◌≡◌, ℕ, ap, sym, refl, arith, Ok, Err}
-use Rattle.std.specs.Prelude.{◌≢◌}
+use Rattle.std.proofs.Common.{◌≡◌, ℕ, ap, arith, Ok, Err}
 use Rattle.search.specs.Views.{TellsApart}
 use Rattle.numbers.proofs.Apart.{numbers_apart}
 use Rattle.scenario.specs.Outcomes.{Taken, Outcome, Kept, Written, Faulty, Refused}
