@@ -78,7 +78,12 @@ situation_row true Suspended later = refl
 situation_rows : (x : Situation) (later : ℕ)
     → situation_refusal x or_then later
     ≡ (if situation_refusal x is 18 then 18 else if situation_refusal x is 26 then 26 else if situation_refusal x is 19 then 19 else if situation_refusal x is 20 then 20 else later)
-situation_rows = situation_row true
+situation_rows NoJob later = refl
+situation_rows Running later = refl
+situation_rows Spinning later = refl
+situation_rows LinkedOnly later = refl
+situation_rows Ready later = refl
+situation_rows Suspended later = refl
 
 -- a kind that is none of those numbers, between those
 beside : (k : ℕ) → k ≢ finish → k ≢ asking → k ≢ completion → within finish k completion ≡ false

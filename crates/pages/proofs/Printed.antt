@@ -81,8 +81,11 @@ page_events x part buffer out {done} {filled} {events} {len} {after} few fits ro
     page_put _ out (rw (kept, numbered, counted)) (rw (counted, bytes, same) at put) (omega (arith, few, room, counted, short))
 
 -- ---- what the code returns of a page is fixed by the page's session, number and length
+abbrev as_given : Page → Result PageGiven Refusal
+as_given y = Ok (record { session = y.session; len = y.len })
+
 pub pages_apart : (x : Session) → TellsApart (page_from x)
-pages_apart x (Ok page) (Ok other) e = ap (λ (y : Page). Ok (record { session = y.session; len = y.len })) e
+pages_apart x (Ok page) (Ok other) e = ap as_given e
 pages_apart x (Ok page) (Err q) e = absurd (numbered q (sym (ap (λ (y : Page). y.number) e)))
 pages_apart x (Err r) (Ok other) e = absurd (numbered r (ap (λ (y : Page). y.number) e))
 pages_apart x (Err r) (Err q) e = ap Err (numbers_apart r q (ap (λ (y : Page). y.number) e))
