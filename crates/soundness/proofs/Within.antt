@@ -1,11 +1,14 @@
--- What the clauses of the sound state bound: the deadlines, and so the ranks. Assumes nothing.
+-- What the clauses of the sound state bound: queues and deadlines, and so the ranks. Assumes nothing.
 use Prim.Native.Nat.{ℕ, ◌<◌, ◌≤◌}
 use mathlib.Core.Path.{◌≡◌}
 use mathlib.Core.Bool.{true}
 use native.Mathlib.Omega.{arith}
 use native.Mathlib.Decide.{ℕ_discrete}
-use borrow.Author.Tests.{eqb-true}
-use Rattle.search.proofs.Tests.{tests, and_iff, all_below_at}
+use borrow.Author.Tests.{leb-true, eqb-true}
+use Rattle.search.proofs.Tests.{tests, and_iff, and_left, all_below_at}
+use Rattle.queue.specs.Limits.{capacity}
+use Rattle.queue.specs.Waiting.{is_tidy}
+use Rattle.queue.specs.declared.Queue.{Queue}
 use Rattle.numbers.specs.Limits.{most_tasks}
 use Rattle.input.specs.Words.{period}
 use Rattle.setups.specs.Refusals.{setup_refusal}
@@ -16,6 +19,10 @@ use Rattle.protocol.specs.declared.State.{State}
 use Rattle.priorities.specs.Bounds.{latest, is_bounded}
 use Rattle.priorities.proofs.Ruled.{jobs_ruled}
 use Rattle.soundness.specs.Parts.{frame_sound, ViewIsRuled}
+
+pub tidy_len : (q : Queue) → is_tidy q ≡ true → q.len ≤ capacity
+unfolding is_tidy
+tidy_len q h = leb-true q.len capacity (and_left _ _ h)
 
 module _ (s : State) where
   -- a period is a u16

@@ -1,7 +1,8 @@
 // Each group's holder and queue.
-ghost use Rattle.std.specs.Prelude.{◌≡◌, ◌<◌};
+ghost use Rattle.std.specs.Prelude.{◌≡◌, ◌<◌, ◌≤◌};
 ghost use Rattle.search.specs.Words.{◌is◌};
 ghost use Rattle.search.specs.Below.{all_below, any_below};
+ghost use Rattle.queue.specs.Limits.{capacity};
 ghost use Rattle.queue.specs.Waiting.{waiter, place_of};
 ghost use Rattle.numbers.specs.Limits.{most_resources};
 ghost use Rattle.setups.specs.Naming.{group_of};
@@ -17,6 +18,7 @@ use queue::Queue;
 
 // No task is in the queue twice: each place is the first of its task.
 fn all_in_place(queue: &Queue) -> bool
+    requires { queue.now.len ≤ capacity }
     ensures { result ≡ all_below queue.now.len (λ i. place_of queue.now (waiter queue.now i) is i) }
 {
     (0..queue.len).all(|i| queue.place_of(queue.waiter(i)) == i)
@@ -42,12 +44,14 @@ impl Named<'_> {
 
     // Every task in the queue waits, and for a resource of group `g`.
     fn all_wait_here(&self, queue: &Queue, g: u8) -> bool
+        requires { queue.now.len ≤ capacity }
         ensures { result ≡ all_below queue.now.len (λ i. waits_in self.now.state.now g (waiter queue.now i)) }
     {
         (0..queue.len).all(|i| self.waits_in(g, queue.waiter(i)))
     }
 
     // The clauses of group `g`.
+    #[tactic(auto, using(crate::proofs::Within::tidy_len))]
     fn group_holds(&self, g: u8) -> bool
         requires { g < most_resources }
         ensures { result ≡ group_sound self.now.state.now.setup self.now.state.now g }
