@@ -12,7 +12,7 @@ fn say_reason(to: &mut impl Write, number: u8) {
 }
 
 // Room for what is said of a refused set-up or block: the longest has 88 bytes.
-const REFUSED: usize = 128;
+const ROOM: usize = 128;
 
 // A refused set-up, or a block past the last index.
 fn say_refused(to: &mut impl Write, refusal: Refusal) {
@@ -26,11 +26,11 @@ fn say_refused(to: &mut impl Write, refusal: Refusal) {
     };
     let number = u8::from(refusal);
     // It goes out in one write, so that nothing of another program's comes between its parts.
-    let mut text = [0u8; REFUSED];
+    let mut text = [0u8; ROOM];
     let mut cursor = Cursor::new(&mut text[..]);
     let _ = writeln!(cursor, "{what} refused {number}: {refusal}");
     let len = cursor.position() as usize;
-    say(to, &text[..len.min(REFUSED)]);
+    say(to, &text[..len.min(ROOM)]);
 }
 
 // A faulty line, with the reason; or the block that it completes is refused.

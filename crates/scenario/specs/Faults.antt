@@ -26,7 +26,7 @@ reason_number Twice = twice
 reason_number Full = full
 reason_number Missing = missing
 
--- the result is the reason with this number, or none has it
+-- the result is the reason with this number, or an error with a number that no reason has
 abbrev pub IsReasonOf : ℕ → Result Reason UnknownReason → Type 0
 IsReasonOf n r =
     MatchResult r (λ reason. reason_number reason ≡ n)
